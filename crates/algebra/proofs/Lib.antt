@@ -1,0 +1,17 @@
+pub mod Entries
+pub mod Generation
+pub mod Residuation
+pub mod HalfSpace
+pub mod Rays
+pub mod Inclusion
+pub mod Hull
+pub mod Delay
+pub mod Reset
+pub mod Convexity
+pub mod Uniqueness
+pub mod Rising
+pub mod Canon
+pub mod Cleaning
+pub mod Lists
+pub mod CanonicalLists
+pub mod Made

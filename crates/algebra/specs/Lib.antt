@@ -1,0 +1,5 @@
+pub mod Vectors
+pub mod Sets
+pub mod Wanted
+pub mod Canonical
+pub mod Reach

@@ -1,0 +1,73 @@
+-- Where a vector falls short of what a list reaches.
+use mathlib.Core.Bool.{Bool, true, false, cond}
+use mathlib.Core.List.{List}
+use mathlib.Core.Path.{_≡_}
+use Prim.Native.Nat.{ℕ, _*_, _≤_, _<_}
+use lib.IntN.{ℤ}
+use lib.ListN.{length, getD, replicate}
+use Rattle.numbers.specs.Numbers.{Num, −∞, _≼_, _⊕_, _⊗_}
+use Rattle.numbers.specs.Words.{number}
+use Rattle.numbers.specs.Places.{Vec, entries, Each}
+use Rattle.numbers.specs.Weights.{weightOf}
+use Rattle.algebra.specs.Vectors.{count}
+use Rattle.algebra.specs.Reach.{reach}
+use Rattle.sets.specs.Rules.{flat}
+use Rattle.sets.specs.declared.Short.{Short}
+use Rattle.sets.specs.declared.Short.the-variants.{Nowhere, At}
+
+-- the vectors whose flag is on; the others have −∞ everywhere and so take no part
+unfoldable pub masked : List Bool → (ℕ → Vec) → ℕ → Vec
+masked used G i j = cond (getD used i false) (G i j) −∞
+
+-- all of up to 32 vectors are used
+unfoldable pub allUsed : List Bool
+allUsed = replicate 32 true
+
+-- entry j is the first where R, what is reached, is smaller than X, and z is the word for R's entry there
+pub record FallsAt (d : ℕ) (R X : Vec) (j : ℕ) (z : ℤ) : Type 0 where
+  pub inside : j < d
+  pub short : ¬ (X j ≼ R j)
+  pub reached : number z ≡ R j
+  pub before : (k : ℕ) → k < j → X k ≼ R k
+
+-- where X falls short of R at its first d entries
+abbrev pub Falls : ℕ → Vec → Vec → Short → Type 0
+Falls d R X Nowhere = (j : ℕ) → j < d → X j ≼ R j
+Falls d R X (At j z) = FallsAt d R X j z
+
+-- the largest combination of the used vectors among the first m of a list that is not above x
+abbrev pub reachOf : List ℤ → ℕ → List Bool → List ℤ → Vec
+reachOf list m used x = reach (length x) m (masked used (flat (length x) list)) (entries x)
+
+-- a vector x can be tested against the first m vectors of the list
+pub record Testable (list : List ℤ) (m : ℕ) (used : List Bool) (x : List ℤ) : Type 0 where
+  pub few : length x ≤ 7
+  pub whole : m * length x ≤ length list
+  pub flags : m ≤ length used
+  pub ofList : Each 100000000 list
+  pub ofX : Each 100000000 x
+
+-- `out` holds what the first i vectors reach
+pub record Gathered (list : List ℤ) (used : List Bool) (x : List ℤ) (i : ℕ) (out : List ℤ) : Type 0 where
+  pub long : length out ≡ length x
+  pub right : (j : ℕ) → j < length x → entries out j ≡ reachOf list i used x j
+
+-- `before` can be raised by g, and `after` is what g at its largest weight below x makes of it
+pub record Raisable (before g x : List ℤ) : Type 0 where
+  pub long : length before ≡ length x
+  pub same : length g ≡ length x
+  pub ofBefore : Each 1000000000 before
+  pub ofG : Each 100000000 g
+  pub ofX : Each 100000000 x
+
+pub record Raised (before g x after : List ℤ) : Type 0 where
+  pub long : length after ≡ length before
+  pub right : (j : ℕ) → j < length x
+      → entries after j ≡ entries before j ⊕ (weightOf (length x) (entries g) (entries x) ⊗ entries g j)
+
+-- the vectors of one list can be tested against another
+pub record Coverable (n : ℕ) (inner outer : List ℤ) : Type 0 where
+  pub few : n ≤ 6
+  pub fewVectors : count n outer ≤ 32
+  pub ofInner : Each 100000000 inner
+  pub ofOuter : Each 100000000 outer
