@@ -1,0 +1,1 @@
+// The worked examples of the rules, as rows of one table. There is nothing to run.
