@@ -13,15 +13,12 @@ use Rattle.numbers.specs.Words.{number}
 use Rattle.numbers.specs.Places.{Vec}
 use Rattle.numbers.proofs.NumberLaws.{⊗-low, ⊗-nought, ⨁-ext}
 use Rattle.algebra.specs.Vectors.{Vector, entry, vector, PointsAndRays, pieces, count, vectors}
+pub use Rattle.algebra.specs.Vectors.{family, tab}
 use Rattle.algebra.specs.Sets.{onPoint, Combines, In, Included}
 use Rattle.algebra.proofs.Entries.{Same, replace, replace-same, replace-other, places}
 use Rattle.algebra.proofs.Generation.{Span, span-self, span-same, span-trans}
 use Rattle.algebra.proofs.Residuation.{Gen, Row, rows, gen-iff-span}
 use Rattle.algebra.proofs.Inclusion.{Sub}
-
--- the entries of the vectors of a list
-abbrev pub family : List Vector → ℕ → Vec
-family L i j = entry (vector L i) j
 
 -- the vectors of a list as a family
 abbrev pub listed : (L : List Vector) → Row (length L) → Vec
@@ -101,12 +98,7 @@ in-span n L k x = (
 
 -- ---- vectors by place as lists
 
--- the first n entries of a vector
-unfoldable pub tab : ℕ → Vec → Vector
-tab zero X = []
-tab (suc n) X = X 0 ∷ tab n (λ j. X (suc j))
-
--- there are n of them
+-- the first n entries of a vector are n entries
 pub tab-length : (n : ℕ) (X : Vec) → length (tab n X) ≡ n
 unfolding tab
 tab-length zero X = refl

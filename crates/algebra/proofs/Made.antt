@@ -14,6 +14,7 @@ use Rattle.numbers.specs.Places.{Vec, sideOf}
 use Rattle.numbers.proofs.NumberLaws.{⊗-nought, ⨁-ext}
 use Rattle.algebra.specs.Vectors.{Vector, entry, vector, IsPoint, IsRay, PointsAndRays}
 use Rattle.algebra.specs.Sets.{In, Included}
+pub use Rattle.algebra.specs.Working.{toRay, delayList, resetVector, resetList}
 use Rattle.algebra.specs.Wanted.{side, Satisfies, Intersected, Delayed, Reset, Hull}
 use Rattle.algebra.proofs.Entries.{Same, replace, replace-same, replace-other, places}
 use Rattle.algebra.proofs.Generation.{Span, span-self, span-same, span-trans}
@@ -149,14 +150,6 @@ set-entry v i z l j = go (ℕ-discrete j i)
 
 -- ---- the delay
 
--- a vector with −∞ at its end
-abbrev pub toRay : ℕ → Vector → Vector
-toRay n v = set v n −∞
-
--- the list, and behind it each of its vectors as a ray
-abbrev pub delayList : ℕ → List Vector → List Vector
-delayList n L = L ++ map (toRay n) L
-
 module _ (n : ℕ) (L : List Vector) (k : PointsAndRays n L) (h : Long n L) where
   ray-entry : (i : ℕ) → i < length L → (j : ℕ) → family (map (toRay n) L) i j ≡ replace (family L i) n −∞ j
   ray-entry i l j = ap (λ v. entry v j) (List·getD-map (toRay n) L i [])
@@ -243,14 +236,6 @@ module _ (n : ℕ) (L : List Vector) (k : PointsAndRays n L) (h : Long n L) wher
           )
 
 -- ---- the reset
-
--- a vector with entry i replaced: by c in a point, by −∞ in a ray
-abbrev pub resetVector : ℕ → ℕ → ℤ → Vector → Vector
-resetVector n i c v = set v i (fin c ⊗ entry v n)
-
--- each vector of the list so replaced
-abbrev pub resetList : ℕ → ℕ → ℤ → List Vector → List Vector
-resetList n i c L = map (resetVector n i c) L
 
 module _ (n : ℕ) (L : List Vector) (k : PointsAndRays n L) (h : Long n L) (i : ℕ) (inside : i < n) (c : ℤ) where
   abbrev R : ℕ → Vec

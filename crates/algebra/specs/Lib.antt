@@ -3,3 +3,4 @@ pub mod Sets
 pub mod Wanted
 pub mod Canonical
 pub mod Reach
+pub mod Working

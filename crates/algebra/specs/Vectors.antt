@@ -7,6 +7,7 @@ use lib.IntN.{ℤ}
 use lib.ListN.{length, getD, take, drop}
 use Rattle.numbers.specs.Numbers.{Num, −∞, nought}
 use Rattle.numbers.specs.Words.{number, word}
+use Rattle.numbers.specs.Places.{Vec}
 
 abbrev pub Vector : Type 0
 Vector = List Num
@@ -18,6 +19,15 @@ entry v j = getD v j −∞
 -- vector i of a list
 abbrev pub vector : List Vector → ℕ → Vector
 vector L i = getD L i []
+
+-- the entries of the vectors of a list
+abbrev pub family : List Vector → ℕ → Vec
+family L i j = entry (vector L i) j
+
+-- the vector of the first n entries of X
+unfoldable pub tab : ℕ → Vec → Vector
+tab zero X = []
+tab (suc n) X = X 0 ∷ tab n (λ j. X (suc j))
 
 -- behind its n clocks, a point has 0 and a ray has −∞
 abbrev pub IsPoint : ℕ → Vector → Type 0

@@ -1,0 +1,5 @@
+pub mod Limits
+pub mod Answers
+pub mod Calls
+pub mod Clean
+pub mod Rules
