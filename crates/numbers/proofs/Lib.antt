@@ -5,3 +5,4 @@ pub mod WordLaws
 pub mod PlaceLaws
 pub mod WeightLaws
 pub mod RefusalLaws
+pub mod Settled
