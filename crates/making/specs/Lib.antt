@@ -3,3 +3,4 @@ pub mod Answers
 pub mod Calls
 pub mod Clean
 pub mod Rules
+pub mod Work

@@ -8,7 +8,7 @@ ghost use Rattle.sets.specs.Rules.{hasPoint};
 use numbers::Vector;
 
 // Whether a word is within the limits of a ray's clocks, or of a point's.
-fn word_fits(x: i32, ray: bool) -> bool
+pub fn word_fits(x: i32, ray: bool) -> bool
     ensures { λ r. ⌜ r ≡ fits ray (number x) ⌝ }
 {
     if ray {

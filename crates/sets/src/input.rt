@@ -9,7 +9,7 @@ use crate::entries;
 use numbers::Refusal;
 
 // 1 to 6 clocks
-fn clocks(n: usize) -> bool
+pub fn clocks(n: usize) -> bool
     ensures { λ r. ⌜ r ≡ clocksOk n ⌝ }
 {
     if n < 1 {
@@ -19,7 +19,7 @@ fn clocks(n: usize) -> bool
 }
 
 // Whole vectors, at most 32.
-fn whole(n: usize, long: usize) -> bool
+pub fn whole(n: usize, long: usize) -> bool
     requires { ⌜ n ≤ 6 ⌝ }
     ensures { λ r. ⌜ r ≡ wholeOk n long ⌝ }
 {

@@ -3,9 +3,9 @@ ghost use Rattle.sets.specs.Calls.{Contains, IsIncluded};
 use numbers::Refusal;
 use numbers::Vector;
 
-mod entries; // entries.rt: whether words are within their limits
-mod input; // input.rt: whether the input of a call is good
-mod against; // against.rt: a vector tested against a list
+pub mod entries; // entries.rt: whether words are within their limits
+pub mod input; // input.rt: whether the input of a call is good
+pub mod against; // against.rt: a vector tested against a list
 
 // The answer of a call that asks.
 pub enum Told {

@@ -1,0 +1,3 @@
+pub mod InputLaws
+pub mod WorkLaws
+pub mod PushLaws
