@@ -122,7 +122,9 @@ module _ (n : ℕ) (L : List Vector) (o : ℕ) (l : o < length L) where
               (λ i. replace c o −∞ i ⊗ family L i j) (λ i h. without-⊗ c (λ r. family L r j) o i)
 
 -- ---- the conditions on a list are those on its family
-before : (n : ℕ) (v w : Vector) → Before n v w → Earlier n (entry v) (entry w)
+
+-- the order of vectors is that of their entries
+pub before : (n : ℕ) (v w : Vector) → Before n v w → Earlier n (entry v) (entry w)
 before n v w (kinds p q) = by-kind p q
 before n v w (clocks e l) =
     by-clock e (record { j = l .at; inside = l .inside; agree = l .same; less = l .smaller })

@@ -30,7 +30,8 @@ module _ {A : Type 0} {E R : A → A → Type 0} (S : Strict E R) where
   abbrev pub Into : ℕ → (ℕ → A) → ℕ → (ℕ → A) → Type 0
   Into m a p b = (i : ℕ) → i < m → (k : ℕ) × (k < p) × E (a i) (b k)
 
-  far : (m : ℕ) (a : ℕ → A) → Rising m a → (i k : ℕ) → i < k → k < m → R (a i) (a k)
+  -- of two of them the one with the lower index is before the other
+  pub far : (m : ℕ) (a : ℕ → A) → Rising m a → (i k : ℕ) → i < k → k < m → R (a i) (a k)
   far m a s i zero l h = absurd (omega arith)
   far m a s i (suc k) l h = go (ℕ-discrete i k) (far m a s i k)
     where

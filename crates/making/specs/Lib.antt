@@ -4,3 +4,5 @@ pub mod Calls
 pub mod Clean
 pub mod Rules
 pub mod Work
+pub mod Change
+pub mod Finish

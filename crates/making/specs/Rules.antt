@@ -38,13 +38,15 @@ pub record Result : Type 0 where
 abbrev pub refusedBy : Made → List ℤ → Result
 refusedBy answer area = record { made = answer; area = area }
 
-unfoldable pub finished : ℕ → List Vector → List ℤ → Result
-finished n R area =
-    cond (rangeOk n R)
-    (cond (leb (length R) 32)
+-- the list R in the area, if it has at most 32 vectors
+abbrev pub written : List Vector → List ℤ → Result
+written R area =
+    cond (leb (length R) 32)
     (record { made = Vectors (length R); area = words R ++ drop (length (words R)) area })
-    (refusedBy (Refused Gens) area))
-    (refusedBy (Refused Range) area)
+    (refusedBy (Refused Gens) area)
+
+unfoldable pub finished : ℕ → List Vector → List ℤ → Result
+finished n R area = cond (rangeOk n R) (written R area) (refusedBy (Refused Range) area)
 
 -- after the checks of the input: the canonical list of the vectors L, or the refusal
 abbrev pub makeAfter : Checked → ℕ → List Vector → List ℤ → Result

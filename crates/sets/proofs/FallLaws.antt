@@ -164,7 +164,8 @@ all-on : (G : ℕ → Vec) (i j : ℕ) → i < 32 → masked allUsed G i j ≡ G
 unfolding masked allUsed
 all-on G i j h = rw (getD-replicate 32 i true false h)
 
-tells-falls : (d : ℕ) (R X : Vec) (s : Short) → Falls d R X s → every d (λ j. atMost (X j) (R j)) ≡ nowhere s
+-- it is reached everywhere exactly if it falls short nowhere
+pub tells-falls : (d : ℕ) (R X : Vec) (s : Short) → Falls d R X s → every d (λ j. atMost (X j) (R j)) ≡ nowhere s
 tells-falls d R X Nowhere h = passes (tells-every _ (λ j. X j ≼ R j) d (λ j l. tells-atMost (X j) (R j))) h
 tells-falls d R X (At j z) h = every-stop (λ j. atMost (X j) (R j)) d j (h .inside) (fails (tells-atMost (X j) (R j)) (h .short))
 

@@ -149,7 +149,7 @@ between-within {x = fin z} h = let l = h .low in let u = h .high in
 tight-within : {x : Num} → Between nought million x → Within 1000000 x
 tight-within h = between-within (record { low = ≼-trans (record { le = omega arith }) (h .low); high = h .high })
 
-loose-within : {x : Num} → Loose x → Within 1000000 x
+pub loose-within : {x : Num} → Loose x → Within 1000000 x
 loose-within (inl e) = rw e (record { near = tt })
 loose-within (inr h) = between-within h
 
