@@ -183,7 +183,11 @@ allowed-ext : (d : ℕ) (g h X Y : Vec) → ((j : ℕ) → j < d → g j ≡ h j
 unfolding allowed
 allowed-ext zero g h X Y e q = refl
 allowed-ext (suc d) g h X Y e q =
-    rw (allowed-ext d g h X Y (λ j l. e j (omega arith)) (λ j l. q j (omega arith)), e d (omega arith), q d (omega arith))
+    rw (
+      allowed-ext d g h X Y (λ j l. e j (omega arith)) (λ j l. q j (omega arith)),
+      e d (omega arith),
+      q d (omega arith),
+    )
 
 -- vectors with the same entries have the same weight
 pub weight-ext : (d : ℕ) (g h X Y : Vec) → ((j : ℕ) → j < d → g j ≡ h j) → ((j : ℕ) → j < d → X j ≡ Y j)

@@ -1,35 +1,38 @@
--- Words of the code and their numbers. A local of the code holds bits, `ofZ w32 a`; a test reads them back, `toZ w32 (ofZ w32 a)`.
+-- Words of the code and their numbers.
+-- A local of the code holds bits, `ofZ w32 a`; a test reads them back, `toZ w32 (ofZ w32 a)`.
 -- These laws take the facts as the code leaves them.
-use mathlib.Core.Path.{_≡_, refl, sym, _∙_, ap, subst}
+use mathlib.Core.Path.{_≡_, refl, sym, _∙_, ap}
 use mathlib.Core.Bool.{Bool, true, false, cond}
 use mathlib.Core.Logic.{_≢_, _⊎_, inl, inr}
 use borrow.Author.Tests.{eqb-false, ne-eqb}
-use Prim.Native.Nat.{ℕ, zero, suc, _+_, _≤_, _<_}
+use Prim.Native.Nat.{ℕ, _≤_, _<_}
 use native.Mathlib.Omega.{arith}
-use lib.Dec.{T, eqb, eqb→eq}
-use lib.IntN.{ℤ, pos, negsuc, negℤ, _+ℤ_, _-ℤ_}
+use lib.Dec.{eqb→eq}
+use lib.IntN.{ℤ, pos, negsuc, _+ℤ_, _-ℤ_}
 use lib.Signed.{ltZ, mag}
 use mir.Syntax.{w32}
 use mir.Val.{SFits, ofZ, toZ}
 use mir.Facts.{toZ-ofZ, ofZ-toZ, sfits-toZ}
 use Rattle.numbers.specs.Integers.{hi, lo, _⊑_}
-use Rattle.numbers.specs.Numbers.{Num, −∞, fin, atMost, _≼_, _⊕_, _⊗_, Within}
+use Rattle.numbers.specs.Numbers.{Num, −∞, fin, atMost, _≼_, _⊗_, Within}
 use Rattle.numbers.specs.Words.{mark, isMark, number, word}
 use Rattle.numbers.specs.Weights.{Cap, free, cap, bound, lower, meet, allowed, value, weightOf, isFree, capOf}
 use Rattle.numbers.specs.Places.{Vec}
 use Rattle.numbers.proofs.IntegerLaws.{sum, diff, hi-le, lo-le, ltZ-true, zarith}
 use Rattle.numbers.proofs.NumberLaws.{low-≼, ≼-antisym, tells-atMost}
-use Rattle.numbers.proofs.Tells.{passes, fails}
+use Rattle.numbers.proofs.Tells.{passes}
 
--- a word is the mark or a finite word
+-- a word that is the mark
 pub record Marked (z : ℤ) : Type 0 where
   pub is : number z ≡ −∞
   pub mark : z ≡ mark
 
+-- a word that is not the mark
 pub record Finite (z : ℤ) : Type 0 where
   pub is : number z ≡ fin z
   pub above : lo z < 2147483648
 
+-- the mark stands for −∞
 pub number-mark : number mark ≡ −∞
 unfolding number
 number-mark = refl
@@ -44,13 +47,15 @@ seen-by (negsuc n) true f e = inl (marked (ap negsuc (eqb→eq n 2147483647 (rw 
 seen-by (negsuc n) false f e =
     inr (record { is = rw e; above = let ne : n ≢ 2147483647 = eqb-false n 2147483647 e in omega arith })
 
+-- every word is one or the other
 pub seen : {z : ℤ} → SFits w32 z → Marked z ⊎ Finite z
 seen {z} f = seen-by z (isMark z) f refl
 
--- the test `a == MARK`
+-- the test `a == MARK` passed
 pub is-mark : {z : ℤ} → SFits w32 z → ofZ w32 z ≡ 2147483648 → Marked z
 is-mark f e = marked (sym (toZ-ofZ f) ∙ ap (λ (n : ℕ). toZ w32 n) e)
 
+-- the test `a == MARK` failed
 pub not-mark : {z : ℤ} → SFits w32 z → (ofZ w32 z ≡ 2147483648 → ⊥) → Finite z
 not-mark {z} f h = go (seen f)
   where
@@ -62,10 +67,11 @@ not-mark {z} f h = go (seen f)
 pub back : {z : ℤ} → mag z < 2147483648 → toZ w32 (ofZ w32 z) ≡ z
 back h = toZ-ofZ (record { sfits = h })
 
--- the test `a < b`
+-- the test `a < b` passed
 pub lt-yes : {a b : ℤ} → SFits w32 a → SFits w32 b → ltZ (toZ w32 (ofZ w32 a)) (toZ w32 (ofZ w32 b)) ≡ true → a ⊑ b
 lt-yes {a} {b} f g e = let h : ltZ a b ≡ true = rw (toZ-ofZ f, toZ-ofZ g) at e in omega zarith
 
+-- the test `a < b` failed
 pub lt-no : {a b : ℤ} → SFits w32 a → SFits w32 b → ltZ (toZ w32 (ofZ w32 a)) (toZ w32 (ofZ w32 b)) ≡ false → b ⊑ a
 lt-no {a} {b} f g e = let h : ltZ a b ≡ false = rw (toZ-ofZ f, toZ-ofZ g) at e in omega zarith
 
@@ -93,17 +99,20 @@ fits-by (pos n) h k = (record { sfits = omega arith }, record { is = refl; above
 fits-by (negsuc n) h k =
     (record { sfits = omega arith }, record { is = rw (ne-eqb n 2147483647 (omega arith)); above = omega arith })
 
+-- z fits in a word, which stands for x
 pub record Fine (z : ℤ) (x : Num) : Type 0 where
   pub fits : SFits w32 z
   pub is : number z ≡ x
 
-module _ {a b : ℤ} (p : Finite a) (q : Finite b) (h : Within 1000000000 (number a)) (k : Within 1000000000 (number b)) where
+module _ {a b : ℤ} (p : Finite a) (q : Finite b)
+    (h : Within 1000000000 (number a)) (k : Within 1000000000 (number b)) where
   a-near : Within 1000000000 (fin a)
   a-near = rw (p .is) at h
 
   b-near : Within 1000000000 (fin b)
   b-near = rw (q .is) at k
 
+  -- the sum stands for the product
   pub sum-of : Fine (a +ℤ b) (number a ⊗ number b)
   sum-of = record { fits = s .0; is = s .1 .is ∙ rw (p .is, q .is) }
     where
@@ -111,10 +120,12 @@ module _ {a b : ℤ} (p : Finite a) (q : Finite b) (h : Within 1000000000 (numbe
       s = let u = a-near in let v = b-near in fits-by (a +ℤ b)
           (hi-le (a +ℤ b) 2000000000 (omega (arith, sum a b))) (lo-le (a +ℤ b) 2000000000 (omega (arith, sum a b)))
 
+  -- the difference is within 2,000,000,000
   pub diff-near : (hi (a -ℤ b) ≤ 2000000000) × (lo (a -ℤ b) ≤ 2000000000)
   diff-near = let u = a-near in let v = b-near in
       (hi-le (a -ℤ b) 2000000000 (omega (arith, diff a b)), lo-le (a -ℤ b) 2000000000 (omega (arith, diff a b)))
 
+  -- the difference fits in a word
   pub diff-of : Fine (a -ℤ b) (fin (a -ℤ b))
   diff-of = let s = fits-by (a -ℤ b) (diff-near .0) (diff-near .1) in record { fits = s .0; is = s .1 .is }
 
@@ -130,9 +141,11 @@ bounds-by (pos k) true f e = none (ap pos (eqb→eq k 2147483647 (rw e tt))) (rw
 bounds-by (pos k) false f e = let ne : k ≢ 2147483647 = eqb-false k 2147483647 e in some (omega arith) (rw e)
 bounds-by (negsuc k) t f e = some (omega arith) refl
 
+-- every word stands for no bound or for its number
 pub bounds : {z : ℤ} → SFits w32 z → Bounds z
 bounds {z} f = bounds-by z (isFree z) f refl
 
+-- 2,147,483,647 stands for no bound
 pub cap-free : capOf (pos 2147483647) ≡ free
 unfolding capOf
 cap-free = refl
@@ -165,15 +178,17 @@ meet-old : (m : ℤ) (y : Num) → capOf m ≡ cap (number m) → number m ≼ y
 unfolding meet
 meet-old m y q h = rw (q, lower-l (number m) y h)
 
--- one entry more of a weight, case by case
+-- one entry more of a weight: −∞ in g sets no bound
 pub under-free : (m g : ℤ) (x : Num) → Marked g → capOf m ≡ meet (capOf m) (bound x (number g))
 under-free m g x k = rw (k .is) (meet-free (capOf m))
 
+-- −∞ in x leaves no weight but −∞
 pub under-low : (m x g : ℤ) → SFits w32 m → Marked x → Finite g → capOf x ≡ meet (capOf m) (bound (number x) (number g))
 unfolding capOf number
 under-low m x g f k q = ap capOf (k .mark) ∙ rw (k .is, q .is) (meet-new m −∞ (bounds f) (λ e. low-≼))
 
-module _ (m x g : ℤ) (f : SFits w32 m) (p : Finite x) (q : Finite g) (h : Within 1000000000 (number x)) (k : Within 1000000000 (number g)) where
+module _ (m x g : ℤ) (f : SFits w32 m) (p : Finite x) (q : Finite g)
+    (h : Within 1000000000 (number x)) (k : Within 1000000000 (number g)) where
   d : ℤ
   d = x -ℤ g
 
@@ -181,6 +196,7 @@ module _ (m x g : ℤ) (f : SFits w32 m) (p : Finite x) (q : Finite g) (h : With
   unfolding d
   d-is = diff-of p q h k
 
+  -- the new bound is the smaller one
   pub under-new : x -ℤ g ⊑ m → capOf (x -ℤ g) ≡ meet (capOf m) (bound (number x) (number g))
   unfolding d
   under-new l = rw (p .is, q .is) (small (bounds (d-is .fits)) ∙ meet-new m (fin d) (bounds f) (λ e. less))
@@ -195,6 +211,7 @@ module _ (m x g : ℤ) (f : SFits w32 m) (p : Finite x) (q : Finite g) (h : With
       small (none e c) = absurd (omega (arith, ap hi e, near))
       small (some b c) = c ∙ ap cap (d-is .is)
 
+  -- the old bound is the smaller one
   pub under-old : m ⊑ x -ℤ g → capOf m ≡ meet (capOf m) (bound (number x) (number g))
   unfolding d
   under-old l = rw (p .is, q .is) (meet-old m (fin d) (some-of (bounds f)) more)
@@ -211,10 +228,12 @@ module _ (m x g : ℤ) (f : SFits w32 m) (p : Finite x) (q : Finite g) (h : With
 
 -- the weight that a bound's word leaves, by the test `m == FREE` on its bits
 module _ (m d : ℕ) (g x : Vec) (is : capOf (toZ w32 m) ≡ allowed d g x) where
+  -- without a bound the weight is −∞
   pub weigh-free : m ≡ 2147483647 → number mark ≡ weightOf d g x
   unfolding weightOf
   weigh-free e = number-mark ∙ ap value (sym cap-free ∙ ap (λ (k : ℕ). capOf (toZ w32 k)) (sym e) ∙ is)
 
+  -- otherwise it is the bound
   pub weigh-cap : m < 4294967296 → (m ≡ 2147483647 → ⊥) → number (toZ w32 m) ≡ weightOf d g x
   unfolding weightOf
   weigh-cap f ne = go (bounds (sfits-toZ (record { fits = f })))

@@ -2,10 +2,12 @@
 use Prim.Native.Nat.{ℕ, suc, _+_, _≤_}
 use lib.IntN.{ℤ, pos, negsuc}
 
+-- how far an integer is above 0
 abbrev pub hi : ℤ → ℕ
 hi (pos n) = n
 hi (negsuc n) = 0
 
+-- how far it is below 0
 abbrev pub lo : ℤ → ℕ
 lo (pos n) = 0
 lo (negsuc n) = suc n

@@ -5,6 +5,7 @@ use lib.IntN.{ℤ, pos, negsuc, _+ℤ_}
 use lib.Signed.{leZ}
 use Rattle.numbers.specs.Integers.{hi, lo}
 
+-- −∞ or an integer
 pub data Num : Type 0 where
   −∞ : Num
   fin : ℤ → Num
@@ -15,6 +16,7 @@ Le −∞ y = Unit {0}
 Le (fin a) −∞ = ⊥
 Le (fin a) (fin b) = hi a + lo b ≤ hi b + lo a
 
+-- x is at most y
 infix 50 _≼_
 pub record _≼_ (x y : Num) : Type 0 where
   pub le : Le x y
@@ -47,6 +49,7 @@ unfoldable pub ⨁ : ℕ → (ℕ → Num) → Num
 ⨁ zero f = −∞
 ⨁ (suc m) f = ⨁ m f ⊕ f m
 
+-- a number that is not −∞
 abbrev pub IsFin : Num → Type 0
 IsFin −∞ = ⊥
 IsFin (fin a) = Unit {0}
@@ -56,15 +59,18 @@ abbrev pub Near : ℕ → Num → Type 0
 Near k −∞ = Unit {0}
 Near k (fin z) = (hi z ≤ k) × (lo z ≤ k)
 
+-- x is −∞, or an integer from −k to k
 pub record Within (k : ℕ) (x : Num) : Type 0 where
   pub near : Near k x
 
--- the numbers 0, 1,000,000 and −1,000,000 of the limits
+-- 0, the least entry of a point
 abbrev pub nought : Num
 nought = fin (pos 0)
 
+-- 1,000,000, the largest entry
 abbrev pub million : Num
 million = fin (pos 1000000)
 
+-- −1,000,000, the least entry of a ray but for −∞
 abbrev pub minusMillion : Num
 minusMillion = fin (negsuc 999999)

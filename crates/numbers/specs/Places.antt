@@ -23,7 +23,7 @@ pub record Each (k : ℕ) (xs : List ℤ) : Type 0 where
 unfoldable pub sideOf : ℕ → Vec → Vec → Num
 sideOf d a x = ⨁ d (λ j. a j ⊗ x j)
 
--- the words of `after` are those of `before` weighted by s or those of h weighted by t, whichever is larger at each place
+-- at each place `after` has the larger of `before` weighted by s and h weighted by t
 pub record Mixed (before : List ℤ) (s : Num) (h : List ℤ) (t : Num) (after : List ℤ) : Type 0 where
   pub long : length after ≡ length before
   pub right : (j : ℕ) → j < length before → entries after j ≡ (s ⊗ entries before j) ⊕ (t ⊗ entries h j)

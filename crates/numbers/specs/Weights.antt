@@ -1,5 +1,5 @@
 -- The largest weight at which one vector stays below another.
-use mathlib.Core.Bool.{Bool, true, false, cond}
+use mathlib.Core.Bool.{Bool, false, cond}
 use Prim.Native.Nat.{ℕ, zero, suc}
 use lib.Dec.{eqb}
 use lib.IntN.{ℤ, pos, negsuc, negℤ, _+ℤ_}
@@ -18,10 +18,11 @@ bound x −∞ = free
 bound −∞ (fin b) = cap −∞
 bound (fin a) (fin b) = cap (fin (a +ℤ negℤ b))
 
--- the smaller of two numbers, and of two bounds
+-- the smaller of two numbers
 unfoldable pub lower : Num → Num → Num
 lower x y = cond (atMost x y) x y
 
+-- the smaller of two bounds
 unfoldable pub meet : Cap → Cap → Cap
 meet free q = q
 meet (cap x) free = cap x
@@ -41,10 +42,11 @@ value (cap x) = x
 unfoldable pub weightOf : ℕ → Vec → Vec → Num
 weightOf d g x = value (allowed d g x)
 
--- a bound as a word: 2,147,483,647 stands for none
+-- whether a bound's word stands for none: 2,147,483,647 does
 abbrev pub isFree : ℤ → Bool
 isFree (pos k) = eqb k 2147483647
 isFree (negsuc k) = false
 
+-- the bound that a word stands for
 unfoldable pub capOf : ℤ → Cap
 capOf z = cond (isFree z) free (cap (number z))

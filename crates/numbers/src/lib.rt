@@ -22,6 +22,7 @@ pub enum Refusal {
 }
 
 impl Refusal {
+    // The number of the refusal.
     pub fn number(self) -> usize
         ensures { λ r. ⌜ r ≡ refusalNumber self ⌝ }
     {
@@ -44,12 +45,16 @@ pub struct Vector {
 }
 
 impl Vector {
+    // The word for −∞, and the last word of a ray.
     pub const MARK: i32 = -2147483648;
 
+    // The least entry of a point.
     pub const LEAST_POINT: i32 = 0;
 
+    // The least entry of a ray but for −∞.
     pub const LEAST_RAY: i32 = -1000000;
 
+    // The largest entry of a point or a ray.
     pub const MOST: i32 = 1000000;
 
     // The point with these clocks.
@@ -107,7 +112,8 @@ pub fn product(a: i32, b: i32) -> i32
 // One side of a half-space at a vector.
 pub fn side(a: &[i32], x: &[i32]) -> i32
     requires { ⌜ (length (now a) ≡ length (now x)) × Each 1000000000 (now a) × Each 1000000000 (now x) ⌝ }
-    ensures { λ r. ⌜ number r ≡ sideOf (length (now (x .entry))) (entries (now (a .entry))) (entries (now (x .entry))) ⌝ }
+    ensures { λ r. ⌜ number r
+        ≡ sideOf (length (now (x .entry))) (entries (now (a .entry))) (entries (now (x .entry))) ⌝ }
 {
     let mut most = Vector::MARK;
     let mut j = 0;
@@ -139,7 +145,8 @@ fn under(m: i32, x: i32, g: i32) -> i32
 // The largest weight at which g stays below x.
 pub fn weight(g: &[i32], x: &[i32]) -> i32
     requires { ⌜ (length (now g) ≡ length (now x)) × Each 1000000000 (now g) × Each 1000000000 (now x) ⌝ }
-    ensures { λ r. ⌜ number r ≡ weightOf (length (now (x .entry))) (entries (now (g .entry))) (entries (now (x .entry))) ⌝ }
+    ensures { λ r. ⌜ number r
+        ≡ weightOf (length (now (x .entry))) (entries (now (g .entry))) (entries (now (x .entry))) ⌝ }
 {
     let mut m = FREE;
     let mut j = 0;

@@ -1,7 +1,7 @@
 -- The answers of the calls that ask: the rule meets each contract, and each contract settles its answer.
 use mathlib.Core.Bool.{Bool, true, false, _&&_, cond}
 use mathlib.Core.List.{List, map}
-use mathlib.Core.Path.{_≡_, refl, sym, _∙_, ap, subst}
+use mathlib.Core.Path.{_≡_, refl, sym, ap, subst}
 use Prim.Native.Nat.{ℕ, _<_}
 use native.Mathlib.Omega.{arith}
 use native.Mathlib.Decide.{decLt}
@@ -21,12 +21,13 @@ use denote.Enum.Declared.{tagOf}
 use Rattle.sets.proofs.Checked.{the-type}
 use Rattle.sets.specs.declared.Checked.{Checked}
 use Rattle.sets.specs.declared.Checked.the-variants.{Good, Refused as CheckedRefused}
-use Rattle.sets.specs.Limits.{Clocks, Whole, ListLimits, TestedLimits}
-use Rattle.sets.specs.Demands.{Demands, MetBelow, Refuses, Input, Good as GoodInput, asking}
-use Rattle.sets.specs.Answers.{Said, answered, refused, saidBy, Asks}
+use Rattle.sets.specs.Limits.{Clocks, Whole}
+use Rattle.sets.specs.Demands.{Demands, Refuses, Input, Good as GoodInput, asking}
+use Rattle.sets.specs.Answers.{saidBy, Asks}
 use Rattle.sets.specs.Calls.{containsInput, Contains, includedInput, IsIncluded}
 use Rattle.sets.specs.Tests.{clocksOk, wholeOk, listOk, wordsOk}
-use Rattle.sets.specs.Rules.{checked, tellAfter, whyOf, inside, hasPoint, covered, containsChecked, containsOf, includedChecked, includedOf}
+use Rattle.sets.specs.Rules.{checked, tellAfter, whyOf, inside, hasPoint, covered}
+use Rattle.sets.specs.Rules.{containsChecked, containsOf, includedChecked, includedOf}
 use Rattle.sets.proofs.TestLaws.{tells-clocks, tells-whole, tells-words, tells-list}
 use Rattle.sets.proofs.Membership.{tells-inside, tells-included}
 
@@ -67,29 +68,41 @@ asks-settled c question (Refused e) (Refused f) p q =
 -- ---- the rule meets the contract
 -- SHAPE is the first demand, ENTRY the second
 broken-shape : (c : Input) → ¬ c .shape → Refuses (asking c) 1
-broken-shape c h = record { why = Shape; number = refl; broken = h; before = λ e l. absurd (omega (arith, number-range e)) }
+broken-shape c h = record {
+  why = Shape;
+  number = refl;
+  broken = h;
+  before = λ e l. absurd (omega (arith, number-range e));
+}
 
 broken-limits : (c : Input) → c .shape → ¬ c .limits → Refuses (asking c) 2
-broken-limits c s h = record { why = Entry; number = refl; broken = h; before = λ e l. one e (omega (arith, number-range e)) }
+broken-limits c s h = record {
+  why = Entry;
+  number = refl;
+  broken = h;
+  before = λ e l. one e (omega (arith, number-range e));
+}
   where
     one : (e : Refusal) → refusalNumber e ≡ 1 → asking c e
     one e q = subst (asking c) (number-inj Shape e (sym q)) s
 
 -- tests in order, then the answer of a test that tells the question
-asks-by : (c : Input) (question : Type 0) (shape limits answer : Bool) → Tells shape (c .shape) → Tells limits (c .limits)
-    → c .arg → (GoodInput c → Tells answer question) → Asks c question (saidBy (tellAfter (checked shape limits) answer))
+asks-by : (c : Input) (question : Type 0) (shape limits answer : Bool)
+    → Tells shape (c .shape) → Tells limits (c .limits) → c .arg → (GoodInput c → Tells answer question)
+    → Asks c question (saidBy (tellAfter (checked shape limits) answer))
 asks-by c question false limits answer s l a t = broken-shape c (s .no refl)
 asks-by c question true false answer s l a t = broken-limits c (s .yes refl) (l .no refl)
 asks-by c question true true true s l a t = let g : GoodInput c = (s .yes refl, l .yes refl, a) in (g, t g .yes refl)
 asks-by c question true true false s l a t = let g : GoodInput c = (s .yes refl, l .yes refl, a) in (g, t g .no refl)
 
--- contains
+-- ---- contains
 contains-shape : (n : ℕ) (l p : List ℤ)
     → Tells (clocksOk n && (wholeOk n (length l) && eqb (length p) n)) (Clocks n × Whole n l × (length p ≡ n))
 contains-shape n l p = means (λ h. (h .0, h .1 .0, h .1 .1)) (λ h. (h .0, (h .1, h .2)))
     (both (clocksOk n) (wholeOk n (length l) && eqb (length p) n) (tells-clocks n)
     (both (wholeOk n (length l)) (eqb (length p) n) (tells-whole n l) (tells-eqb (length p) n)))
 
+-- the rule's answer meets the contract
 pub contains-meets : (n : ℕ) (l p : List ℤ) → Contains n l p (containsOf n l p)
 unfolding containsOf containsChecked
 contains-meets n l p = asks-by (containsInput n l p) (setOf n l (map number p))
@@ -97,16 +110,19 @@ contains-meets n l p = asks-by (containsInput n l p) (setOf n l (map number p))
     (contains-shape n l p) (both (listOk n l) (wordsOk false n p) (tells-list n l) (tells-words false n p)) tt
     (λ g. tells-inside n l p (g .0 .2) (g .1 .0))
 
+-- the contract allows one answer
 pub contains-settled : (n : ℕ) (l p : List ℤ) (a b : Told) → Contains n l p a → Contains n l p b → a ≡ b
 contains-settled n l p = asks-settled (containsInput n l p) (setOf n l (map number p))
 
--- included
+-- ---- included
 included-shape : (n : ℕ) (inner outer : List ℤ)
-    → Tells (clocksOk n && (wholeOk n (length inner) && wholeOk n (length outer))) (Clocks n × Whole n inner × Whole n outer)
+    → Tells (clocksOk n && (wholeOk n (length inner) && wholeOk n (length outer)))
+    (Clocks n × Whole n inner × Whole n outer)
 included-shape n inner outer = means (λ h. (h .0, h .1 .0, h .1 .1)) (λ h. (h .0, (h .1, h .2)))
     (both (clocksOk n) (wholeOk n (length inner) && wholeOk n (length outer)) (tells-clocks n)
     (both (wholeOk n (length inner)) (wholeOk n (length outer)) (tells-whole n inner) (tells-whole n outer)))
 
+-- the rule's answer meets the contract
 pub included-meets : (n : ℕ) (inner outer : List ℤ) → IsIncluded n inner outer (includedOf n inner outer)
 unfolding includedOf includedChecked
 included-meets n inner outer = asks-by (includedInput n inner outer) (Included (setOf n inner) (setOf n outer))
@@ -115,6 +131,7 @@ included-meets n inner outer = asks-by (includedInput n inner outer) (Included (
     (included-shape n inner outer) (both (listOk n inner) (listOk n outer) (tells-list n inner) (tells-list n outer)) tt
     (λ g. tells-included n inner outer (g .1 .0) (g .1 .1))
 
+-- the contract allows one answer
 pub included-settled : (n : ℕ) (inner outer : List ℤ) (a b : Told)
     → IsIncluded n inner outer a → IsIncluded n inner outer b → a ≡ b
 included-settled n inner outer = asks-settled (includedInput n inner outer) (Included (setOf n inner) (setOf n outer))
@@ -135,6 +152,7 @@ all-passed true true e = (refl, refl)
 pub contains-as : (n : ℕ) (l p : List ℤ) {r : Told} → r ≡ containsOf n l p → Contains n l p r
 contains-as n l p e = subst (Contains n l p) (sym e) (contains-meets n l p)
 
+-- so it does for `included`
 pub included-as : (n : ℕ) (inner outer : List ℤ) {r : Told} → r ≡ includedOf n inner outer → IsIncluded n inner outer r
 included-as n inner outer e = subst (IsIncluded n inner outer) (sym e) (included-meets n inner outer)
 
@@ -150,6 +168,7 @@ contains-good n l p e = (
     b : ((clocksOk n && (wholeOk n (length l) && eqb (length p) n)) ≡ true) × ((listOk n l && wordsOk false n p) ≡ true)
     b = all-passed _ _ e
 
+-- so it is for `included`
 pub included-good : (n : ℕ) (inner outer : List ℤ) → includedChecked n inner outer ≡ Good
     → GoodInput (includedInput n inner outer)
 unfolding includedChecked

@@ -1,7 +1,7 @@
 -- The vectors of a list of words, entry by entry.
 use mathlib.Core.List.{List, [], _∷_, map}
 use mathlib.Core.Path.{_≡_, refl, sym, _∙_, ap, subst}
-use Prim.Native.Nat.{ℕ, zero, suc, _+_, _*_, _≤_, _<_}
+use Prim.Native.Nat.{ℕ, zero, suc, _+_, _*_, _<_}
 use native.Mathlib.Nat.{zero-mul, suc-mul, add-comm}
 use native.Mathlib.Omega.{arith}
 use lib.IntN.{ℤ, pos}
@@ -9,7 +9,7 @@ use lib.ListN.{length, getD, take, drop, List·getD-map}
 use lib.Seq.{getD-take, getD-drop, drop-drop}
 use Rattle.numbers.specs.Numbers.{Num, −∞}
 use Rattle.numbers.specs.Words.{mark, number}
-use Rattle.numbers.specs.Places.{Vec, entries}
+use Rattle.numbers.specs.Places.{entries}
 use Rattle.numbers.proofs.WordLaws.{number-mark}
 use Rattle.algebra.specs.Vectors.{Vector, entry, vector, pieces, count, vectors}
 use Rattle.algebra.proofs.Lists.{family}
@@ -34,6 +34,7 @@ in-range [] k d e h = absurd (omega arith)
 in-range (x ∷ l) zero d e h = refl
 in-range (x ∷ l) (suc k) d e h = in-range l k d e (omega arith)
 
+-- entry k of the numbers of a list is the number of word k
 pub number-at : (l : List ℤ) (k : ℕ) → k < length l → getD (map number l) k −∞ ≡ entries l k
 number-at l k h =
     subst (λ (x : Num). getD (map number l) k x ≡ number (getD l k mark)) number-mark (List·getD-map number l k mark)

@@ -1,7 +1,7 @@
 -- Where the vectors of a list of words stand.
-use mathlib.Core.Path.{_≡_, refl, sym, _∙_, ap, subst}
+use mathlib.Core.Path.{_≡_}
 use mathlib.Core.List.{List}
-use Prim.Native.Nat.{ℕ, suc, _+_, _-_, _*_, _/_, _≤_, _<_}
+use Prim.Native.Nat.{ℕ, _+_, _-_, _*_, _/_, _≤_, _<_}
 use native.Mathlib.Nat.{mul-le-mul-right, suc-mul, div-mul-le-self, div-le-self}
 use native.Mathlib.Omega.{arith}
 use lib.IntN.{ℤ}
@@ -26,6 +26,7 @@ pub part-is : (l : List ℤ) (a w : ℕ) → take (a + w - a) (drop a l) ≡ par
 unfolding part
 part-is l a w = let e : a + w - a ≡ w = omega arith in rw e
 
+-- how many they are
 pub part-long : (l : List ℤ) (a w : ℕ) → a + w ≤ length l → length (part l a w) ≡ w
 unfolding part
 part-long l a w h = length-take-le w (drop a l) (simp length-drop (omega arith))

@@ -1,17 +1,17 @@
 -- Each test of the input tells its meaning.
 use mathlib.Core.Bool.{Bool, true, false, _&&_}
-use mathlib.Core.List.{List, map}
+use mathlib.Core.List.{List}
 use mathlib.Core.Logic.{_⊎_, inl, inr}
-use mathlib.Core.Path.{_≡_, refl, sym, _∙_, ap, subst}
+use mathlib.Core.Path.{_≡_, refl, sym, _∙_, subst}
 use Prim.Native.Nat.{ℕ, zero, suc, _*_, _/_, _%_, _<_}
 use native.Mathlib.Nat.{div-add-mod', div-lt-iff-lt-mul, mod-lt, zero-lt-suc}
 use native.Mathlib.Omega.{arith}
 use lib.Dec.{eqb, leb}
 use lib.IntN.{ℤ, pos, negsuc}
 use lib.ListN.{length}
-use Rattle.numbers.specs.Numbers.{Num, −∞, fin, _≼_, atMost, Within, nought, million, minusMillion}
+use Rattle.numbers.specs.Numbers.{Num, −∞, fin, atMost, Within, nought, million, minusMillion}
 use Rattle.numbers.specs.Places.{entries, Each}
-use Rattle.numbers.specs.Tests.{every, some}
+use Rattle.numbers.specs.Tests.{some}
 use Rattle.numbers.proofs.Tells.{Tells, always, never, means, both, tells-every, tells-some, tells-leb, tells-eqb}
 use Rattle.numbers.proofs.NumberLaws.{≼-trans, tells-atMost, fin-low, fin-inj}
 use Rattle.numbers.proofs.IntegerLaws.{hi-le, lo-le}
@@ -20,14 +20,17 @@ use Rattle.algebra.specs.Vectors.{Vector, entry, vector, vectors, count}
 use Rattle.sets.specs.Rules.{flat}
 use Rattle.sets.proofs.FlatLaws.{part-flat, family-flat}
 use Rattle.sets.specs.Limits.{Clocks, Whole, Between, Loose, PointLimits, RayLimits, ListLimits, TestedLimits}
-use Rattle.sets.specs.Tests.{tight, loose, finite, fits, wordsOk, someFinite, okBy, vectorOk, part, clocksOk, wholeOk, listOk}
+use Rattle.sets.specs.Tests.{loose, finite, fits, wordsOk, someFinite, okBy, vectorOk, part}
+use Rattle.sets.specs.Tests.{clocksOk, wholeOk, listOk}
 
 -- ---- shape
+-- the number of clocks
 pub tells-clocks : (n : ℕ) → Tells (clocksOk n) (Clocks n)
 unfolding clocksOk
 tells-clocks n = means (λ h. record { some = h .0; few = h .1 }) (λ h. (h .some, h .few))
     (both (leb 1 n) (leb n 6) (tells-leb 1 n) (tells-leb n 6))
 
+-- whole vectors, at most 32
 pub tells-whole : (n : ℕ) (l : List ℤ) → Tells (wholeOk n (length l)) (Whole n l)
 unfolding wholeOk
 tells-whole n l = means (λ h. record { exact = sym (h .0); few = h .1 }) (λ h. (sym (h .exact), h .few))
@@ -56,17 +59,22 @@ tells-fits : (ray : Bool) (x : Num) → Tells (fits ray x) (Limited ray x)
 tells-fits true x = tells-loose x
 tells-fits false x = tells-between nought million x
 
-pub tells-words : (ray : Bool) (n : ℕ) (v : List ℤ) → Tells (wordsOk ray n v) ((j : ℕ) → j < n → Limited ray (entries v j))
+-- each of the first n words
+pub tells-words : (ray : Bool) (n : ℕ) (v : List ℤ)
+    → Tells (wordsOk ray n v) ((j : ℕ) → j < n → Limited ray (entries v j))
 unfolding wordsOk
-tells-words ray n v = tells-every (λ j. fits ray (entries v j)) (λ j. Limited ray (entries v j)) n (λ j l. tells-fits ray (entries v j))
+tells-words ray n v =
+    tells-every (λ j. fits ray (entries v j)) (λ j. Limited ray (entries v j)) n (λ j l. tells-fits ray (entries v j))
 
+-- a number that is not −∞
 pub tells-finite : (x : Num) → Tells (finite x) (x ≡ −∞ → ⊥)
 tells-finite −∞ = never (λ h. h refl)
 tells-finite (fin z) = always fin-low
 
 tells-some-finite : (n : ℕ) (v : List ℤ) → Tells (someFinite n v) ((j : ℕ) × (j < n) × (entries v j ≡ −∞ → ⊥))
 unfolding someFinite
-tells-some-finite n v = tells-some (λ j. finite (entries v j)) (λ j. entries v j ≡ −∞ → ⊥) n (λ j l. tells-finite (entries v j))
+tells-some-finite n v =
+    tells-some (λ j. finite (entries v j)) (λ j. entries v j ≡ −∞ → ⊥) n (λ j l. tells-finite (entries v j))
 
 -- ---- vectors: u has the numbers of the words v
 module _ (n : ℕ) (v : List ℤ) (u : Vector) (same : (j : ℕ) → j < suc n → entries v j ≡ entry u j) where
@@ -86,14 +94,16 @@ module _ (n : ℕ) (v : List ℤ) (u : Vector) (same : (j : ℕ) → j < suc n �
   unfolding Fine
   as-ray e = means to from (both (wordsOk true n v) (someFinite n v) (tells-words true n v) (tells-some-finite n v))
     where
-      to : ((j : ℕ) → j < n → Loose (entries v j)) × ((j : ℕ) × (j < n) × (entries v j ≡ −∞ → ⊥)) → PointLimits n u ⊎ RayLimits n u
+      to : ((j : ℕ) → j < n → Loose (entries v j)) × ((j : ℕ) × (j < n) × (entries v j ≡ −∞ → ⊥))
+          → PointLimits n u ⊎ RayLimits n u
       to (a, s) = inr (record {
         last = sym last-is ∙ e;
         clocks = clock-as Loose a;
         some = (s .0, s .1, λ q. s .2 (same (s .0) (omega (arith, s .1)) ∙ q));
       })
 
-      from : PointLimits n u ⊎ RayLimits n u → ((j : ℕ) → j < n → Loose (entries v j)) × ((j : ℕ) × (j < n) × (entries v j ≡ −∞ → ⊥))
+      from : PointLimits n u ⊎ RayLimits n u
+          → ((j : ℕ) → j < n → Loose (entries v j)) × ((j : ℕ) × (j < n) × (entries v j ≡ −∞ → ⊥))
       from (inl p) = absurd (fin-low (sym (p .last) ∙ sym last-is ∙ e))
       from (inr p) = (
         clock-of Loose (p .clocks),
@@ -154,11 +164,14 @@ loose-within (inl e) = rw e (record { near = tt })
 loose-within (inr h) = between-within h
 
 -- the entries of a vector within its limits are within 1,000,000
-vector-within : (n : ℕ) (v : Vector) → PointLimits n v ⊎ RayLimits n v → (j : ℕ) → j < suc n → Within 1000000 (entry v j)
-vector-within n v (inl p) = places n (λ j. Within 1000000 (entry v j)) (rw (p .last) (record { near = omega arith })) (λ j l. tight-within (p .clocks j l))
-vector-within n v (inr p) = places n (λ j. Within 1000000 (entry v j)) (rw (p .last) (record { near = tt })) (λ j l. loose-within (p .clocks j l))
+vector-within : (n : ℕ) (v : Vector) → PointLimits n v ⊎ RayLimits n v
+    → (j : ℕ) → j < suc n → Within 1000000 (entry v j)
+vector-within n v (inl p) = places n (λ j. Within 1000000 (entry v j))
+    (rw (p .last) (record { near = omega arith })) (λ j l. tight-within (p .clocks j l))
+vector-within n v (inr p) = places n (λ j. Within 1000000 (entry v j))
+    (rw (p .last) (record { near = tt })) (λ j l. loose-within (p .clocks j l))
 
--- so are all words of a list of whole vectors within their limits, and those of a tested point
+-- so are all words of a list of whole vectors within their limits
 pub list-each : (n : ℕ) (l : List ℤ) → Whole n l → ListLimits n l → Each 1000000 l
 unfolding flat
 list-each n l w h = record { each = at }
@@ -171,5 +184,6 @@ list-each n l w h = record { each = at }
         row : k / suc n < count n l
         row = div-lt-iff-lt-mul (zero-lt-suc n) .1 (subst (λ (m : ℕ). k < m) (w .exact) b)
 
+-- so are those of a tested point
 pub tested-within : (n : ℕ) (p : List ℤ) → TestedLimits n p → (j : ℕ) → j < n → Within 1000000 (entries p j)
 tested-within n p h j l = tight-within (h j l)

@@ -11,6 +11,7 @@ pub data Said : Type 0 where
   answered : Bool → Said
   refused : ℕ → Said
 
+-- what an answer of the code says
 abbrev pub saidBy : Told → Said
 saidBy Yes = answered true
 saidBy No = answered false

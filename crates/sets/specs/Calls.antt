@@ -12,6 +12,7 @@ use Rattle.sets.specs.Demands.{Input}
 use Rattle.sets.specs.Answers.{saidBy, Asks}
 
 -- ---- contains: is the point p in the set of l?
+-- what it demands of its input
 abbrev pub containsInput : ℕ → List ℤ → List ℤ → Input
 containsInput n l p = record {
   shape = Clocks n × Whole n l × (length p ≡ n);
@@ -19,10 +20,12 @@ containsInput n l p = record {
   arg = Unit;
 }
 
+-- its contract
 abbrev pub Contains : ℕ → List ℤ → List ℤ → Told → Type 0
 Contains n l p answer = Asks (containsInput n l p) (setOf n l (map number p)) (saidBy answer)
 
 -- ---- included: is the set of `inner` included in that of `outer`?
+-- what it demands of its input
 abbrev pub includedInput : ℕ → List ℤ → List ℤ → Input
 includedInput n inner outer = record {
   shape = Clocks n × Whole n inner × Whole n outer;
@@ -30,6 +33,7 @@ includedInput n inner outer = record {
   arg = Unit;
 }
 
+-- its contract
 abbrev pub IsIncluded : ℕ → List ℤ → List ℤ → Told → Type 0
 IsIncluded n inner outer answer =
     Asks (includedInput n inner outer) (Included (setOf n inner) (setOf n outer)) (saidBy answer)

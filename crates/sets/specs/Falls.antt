@@ -5,7 +5,7 @@ use mathlib.Core.Path.{_≡_}
 use Prim.Native.Nat.{ℕ, _*_, _≤_, _<_}
 use lib.IntN.{ℤ}
 use lib.ListN.{length, getD, replicate}
-use Rattle.numbers.specs.Numbers.{Num, −∞, _≼_, _⊕_, _⊗_}
+use Rattle.numbers.specs.Numbers.{−∞, _≼_, _⊕_, _⊗_}
 use Rattle.numbers.specs.Words.{number}
 use Rattle.numbers.specs.Places.{Vec, entries, Each}
 use Rattle.numbers.specs.Weights.{weightOf}
@@ -52,7 +52,7 @@ pub record Gathered (list : List ℤ) (used : List Bool) (x : List ℤ) (i : ℕ
   pub long : length out ≡ length x
   pub right : (j : ℕ) → j < length x → entries out j ≡ reachOf list i used x j
 
--- `before` can be raised by g, and `after` is what g at its largest weight below x makes of it
+-- `before` can be raised by g
 pub record Raisable (before g x : List ℤ) : Type 0 where
   pub long : length before ≡ length x
   pub same : length g ≡ length x
@@ -60,6 +60,7 @@ pub record Raisable (before g x : List ℤ) : Type 0 where
   pub ofG : Each 100000000 g
   pub ofX : Each 100000000 x
 
+-- `after` is what g at its largest weight below x makes of `before`
 pub record Raised (before g x after : List ℤ) : Type 0 where
   pub long : length after ≡ length before
   pub right : (j : ℕ) → j < length x

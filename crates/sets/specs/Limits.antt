@@ -28,11 +28,12 @@ pub record Between (a b x : Num) : Type 0 where
 abbrev pub Loose : Num → Type 0
 Loose x = (x ≡ −∞) ⊎ Between minusMillion million x
 
--- a point within its limits, and a ray
+-- a point within its limits
 pub record PointLimits (n : ℕ) (v : Vector) : Type 0 where
   pub last : IsPoint n v
   pub clocks : (j : ℕ) → j < n → Between nought million (entry v j)
 
+-- a ray within its limits
 pub record RayLimits (n : ℕ) (v : Vector) : Type 0 where
   pub last : IsRay n v
   pub clocks : (j : ℕ) → j < n → Loose (entry v j)

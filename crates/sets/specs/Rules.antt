@@ -5,7 +5,7 @@ use Prim.Native.Nat.{ℕ, suc, _+_, _*_}
 use lib.Dec.{eqb}
 use lib.IntN.{ℤ, pos}
 use lib.ListN.{length, getD}
-use Rattle.numbers.specs.Numbers.{Num, −∞, fin, atMost}
+use Rattle.numbers.specs.Numbers.{atMost}
 use Rattle.numbers.specs.Words.{number}
 use Rattle.numbers.specs.Places.{Vec, entries}
 use Rattle.numbers.specs.Tests.{every, some}
@@ -39,10 +39,11 @@ inside n l p = attained (suc n) (count n l) (flat (suc n) l) (entries (p ++ (pos
 unfoldable pub hasPoint : ℕ → List ℤ → Bool
 hasPoint n l = some (count n l) (λ i. finite (flat (suc n) l i n))
 
--- vector i of the first list is a combination of the vectors of the second; every vector is
+-- vector i of the first list is a combination of the vectors of the second
 unfoldable pub covers : ℕ → List ℤ → List ℤ → ℕ → Bool
 covers n inner outer i = attained (suc n) (count n outer) (flat (suc n) outer) (flat (suc n) inner i)
 
+-- every vector of the first list is
 unfoldable pub covered : ℕ → List ℤ → List ℤ → Bool
 covered n inner outer = every (count n inner) (covers n inner outer)
 
@@ -62,23 +63,28 @@ abbrev pub tell : Bool → Told
 tell true = Yes
 tell false = No
 
+-- the answer after the checks
 abbrev pub tellAfter : Checked → Bool → Told
 tellAfter Good answer = tell answer
 tellAfter (CheckedRefused e) answer = Refused e
 
 -- ---- contains
+-- its checks, in order
 unfoldable pub containsChecked : ℕ → List ℤ → List ℤ → Checked
 containsChecked n l p =
     checked (clocksOk n && (wholeOk n (length l) && eqb (length p) n)) (listOk n l && wordsOk false n p)
 
+-- its answer
 unfoldable pub containsOf : ℕ → List ℤ → List ℤ → Told
 containsOf n l p = tellAfter (containsChecked n l p) (inside n l p)
 
--- ---- included: a set without points is empty, and so in every set
+-- ---- included
+-- its checks, in order
 unfoldable pub includedChecked : ℕ → List ℤ → List ℤ → Checked
 includedChecked n inner outer =
     checked (clocksOk n && (wholeOk n (length inner) && wholeOk n (length outer))) (listOk n inner && listOk n outer)
 
+-- its answer: a set without points is empty, and so in every set
 unfoldable pub includedOf : ℕ → List ℤ → List ℤ → Told
 includedOf n inner outer =
     tellAfter (includedChecked n inner outer) (cond (hasPoint n inner) (covered n inner outer) true)

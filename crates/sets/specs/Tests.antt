@@ -4,7 +4,7 @@ use mathlib.Core.List.{List}
 use Prim.Native.Nat.{ℕ, zero, suc, _*_, _/_}
 use lib.Dec.{eqb, leb}
 use lib.IntN.{ℤ, pos, negsuc}
-use lib.ListN.{length, take, drop}
+use lib.ListN.{take, drop}
 use Rattle.numbers.specs.Numbers.{Num, −∞, fin, atMost, nought, million, minusMillion}
 use Rattle.numbers.specs.Places.{entries}
 use Rattle.numbers.specs.Tests.{every, some}
@@ -19,6 +19,7 @@ abbrev pub loose : Num → Bool
 loose −∞ = true
 loose (fin z) = atMost minusMillion (fin z) && atMost (fin z) million
 
+-- not −∞
 abbrev pub finite : Num → Bool
 finite −∞ = false
 finite (fin z) = true
@@ -32,6 +33,7 @@ fits false x = tight x
 unfoldable pub wordsOk : Bool → ℕ → List ℤ → Bool
 wordsOk ray n v = every n (λ j. fits ray (entries v j))
 
+-- one of the first n words is not −∞
 unfoldable pub someFinite : ℕ → List ℤ → Bool
 someFinite n v = some n (λ j. finite (entries v j))
 
@@ -42,6 +44,7 @@ okBy (fin (pos zero)) n v = wordsOk false n v
 okBy (fin (pos (suc k))) n v = false
 okBy (fin (negsuc k)) n v = false
 
+-- a vector is a point or a ray within its limits
 unfoldable pub vectorOk : ℕ → List ℤ → Bool
 vectorOk n v = okBy (entries v n) n v
 
@@ -50,11 +53,14 @@ unfoldable pub part : List ℤ → ℕ → ℕ → List ℤ
 part l a w = take w (drop a l)
 
 -- ---- the tests of a call
+-- 1 to 6 clocks
 unfoldable pub clocksOk : ℕ → Bool
 clocksOk n = leb 1 n && leb n 6
 
+-- whole vectors, at most 32
 unfoldable pub wholeOk : ℕ → ℕ → Bool
 wholeOk n long = eqb (long / suc n * suc n) long && leb (long / suc n) 32
 
+-- each vector is a point or a ray within its limits
 unfoldable pub listOk : ℕ → List ℤ → Bool
 listOk n l = every (count n l) (λ i. vectorOk n (part l (i * suc n) (suc n)))

@@ -13,7 +13,8 @@ use numbers::weight;
 // The first entry where the largest combination of the used vectors that is not above x is smaller than x.
 pub fn short(list: &[i32], m: usize, used: &[bool], x: &[i32]) -> Short
     requires { ⌜ Testable (now list) m (now used) (now x) ⌝ }
-    ensures { λ r. ⌜ Falls (length (now (x .entry))) (reachOf (now (list .entry)) m (now (used .entry)) (now (x .entry))) (entries (now (x .entry))) r ⌝ }
+    ensures { λ r. ⌜ Falls (length (now (x .entry)))
+        (reachOf (now (list .entry)) m (now (used .entry)) (now (x .entry))) (entries (now (x .entry))) r ⌝ }
 {
     let w = x.len();
     let mut reached = [Vector::MARK; 7];

@@ -1,6 +1,6 @@
 // Whether words are within their limits.
 ghost use mathlib.Core.Path.{_≡_};
-ghost use Prim.Native.Nat.{suc, _*_, _≤_, _<_};
+ghost use Prim.Native.Nat.{_*_, _≤_, _<_};
 ghost use lib.ListN.{length};
 ghost use Rattle.numbers.specs.Words.{number};
 ghost use Rattle.sets.specs.Tests.{fits, wordsOk, someFinite, vectorOk, listOk};

@@ -1,7 +1,6 @@
 // Whether the input of a call is good: SHAPE before ENTRY.
 ghost use mathlib.Core.Path.{_≡_};
 ghost use Prim.Native.Nat.{_≤_};
-ghost use lib.ListN.{length};
 ghost use Rattle.sets.specs.Tests.{clocksOk, wholeOk};
 ghost use Rattle.sets.specs.Rules.{containsChecked, includedChecked, whyOf};
 use crate::Checked;
@@ -31,6 +30,7 @@ pub fn whole(n: usize, long: usize) -> bool
     m <= 32
 }
 
+// The input of `contains`: good, or the first refusal.
 pub fn contains(n: usize, list: &[i32], point: &[i32]) -> Checked
     ensures { λ r. ⌜ r ≡ containsChecked n (now (list .entry)) (now (point .entry)) ⌝ }
 {
@@ -41,7 +41,7 @@ pub fn contains(n: usize, list: &[i32], point: &[i32]) -> Checked
         return Checked::Refused(Refusal::Shape);
     }
     if point.len() != n {
-        return Checked::Refused(Refusal::Shape);
+        return Checked::Refused(Refusal::Shape); // the tested point is not n words
     }
     if !entries::list_fits(n, list) {
         return Checked::Refused(Refusal::Entry);
@@ -52,6 +52,7 @@ pub fn contains(n: usize, list: &[i32], point: &[i32]) -> Checked
     Checked::Good
 }
 
+// The input of `included`: good, or the first refusal.
 pub fn included(n: usize, inner: &[i32], outer: &[i32]) -> Checked
     ensures { λ r. ⌜ r ≡ includedChecked n (now (inner .entry)) (now (outer .entry)) ⌝ }
 {

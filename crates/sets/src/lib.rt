@@ -38,9 +38,9 @@ pub fn contains(n: usize, list: &[i32], point: &[i32]) -> Told
     let vector = Vector::point(point);
     let words = vector.words;
     if against::generates(list, list.len() / w, &words[..w]) {
-        Told::Yes
+        Told::Yes // the point is reached
     } else {
-        Told::No
+        Told::No // the point falls short
     }
 }
 
@@ -53,11 +53,11 @@ pub fn included(n: usize, inner: &[i32], outer: &[i32]) -> Told
         return Told::Refused(input::why(checked));
     };
     if !entries::has_point(n, inner) {
-        return Told::Yes;
+        return Told::Yes; // the empty set is in every set
     }
     if against::covered(n, inner, outer) {
-        Told::Yes
+        Told::Yes // each vector of inner is reached
     } else {
-        Told::No
+        Told::No // a vector of inner falls short
     }
 }

@@ -1,5 +1,4 @@
-use mathlib.Core.Path.{_≡_, sym, _∙_}
-use Prim.Native.Nat.{ℕ, _≤_, _<_, _-_}
+use Prim.Native.Nat.{_-_}
 use native.Mathlib.Omega.{arith}
 use lib.ListN.{length}
 use mir.Syntax.{w32}
@@ -8,7 +7,6 @@ use mir.Facts.{toZ-ofZ}
 use Rattle.numbers.specs.Numbers.{Within}
 use Rattle.numbers.specs.Words.{number}
 use Rattle.numbers.specs.Places.{entries}
-use Rattle.numbers.proofs.WordLaws.{back}
 use Rattle.numbers.proofs.PlaceLaws.{Mixing, mixing-start, mixing-next, mixing-done}
 use borrow.Author.Needs.{needs}
 use Rattle.numbers.proofs.mix.Statement.{statement}
@@ -33,7 +31,8 @@ product-requires : tie.Need-product-requires Inv-loop μ-loop
 product-requires c κs =
     let s = c .before .before .before in
     let l = c .before .before .loop in
-    let w : Within 1000000000 (entries (l .out) (l .j)) = rw (l .inv .rest (l .j) (omega arith)) (s .pre .1 .0 .0 .each (l .j) (omega arith)) in
+    let e = s .pre .1 .0 .0 .each (l .j) (omega arith) in
+    let w : Within 1000000000 (entries (l .out) (l .j)) = rw (l .inv .rest (l .j) (omega arith)) e in
     search needs
 
 mul-product : tie.Need-mul-product Inv-loop μ-loop
@@ -80,6 +79,7 @@ returns c =
     let l = c .before .loop in
     rw (← toZ-ofZ (s .fits .s), ← toZ-ofZ (s .fits .t)) (mixing-done _ _ _ _ (l .out) (l .j) (l .inv) (omega arith))
 
+-- `mix` meets its contract
 pub mix-spec : {M : Type 1} → statement M
 mix-spec =
     tie.close

@@ -28,5 +28,6 @@ returns-3 c =
     let f = c .before .before .fits in
     rw (toZ-ofZ (f .a), toZ-ofZ (f .b), toZ-ofZ (sum c .fits)) (sum c .is)
 
+-- `product` meets its contract
 pub product-spec : {M : Type 1} → statement M
 product-spec = tie.close (tie.spec returns returns-2 add-result returns-3)

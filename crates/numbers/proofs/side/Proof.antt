@@ -1,5 +1,5 @@
 use mathlib.Core.Path.{_≡_, sym, _∙_}
-use Prim.Native.Nat.{ℕ, _≤_, _-_}
+use Prim.Native.Nat.{_≤_, _-_}
 use native.Mathlib.Omega.{arith}
 use lib.ListN.{length}
 use mir.Syntax.{w32}
@@ -60,6 +60,7 @@ returns c =
     let e : c .before .loop .j ≡ length (c .before .before .args .x .now) = omega arith in
     rw (← e) (c .before .loop .inv .1)
 
+-- `side` meets its contract
 pub side-spec : {M : Type 1} → statement M
 side-spec =
     tie.close

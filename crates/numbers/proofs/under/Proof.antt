@@ -5,9 +5,9 @@ use lib.Signed.{ltZ}
 use mir.Syntax.{w32}
 use mir.Val.{SFits}
 use mir.Facts.{toZ-ofZ}
-use Rattle.numbers.specs.Integers.{_⊑_}
 use Rattle.numbers.proofs.IntegerLaws.{zarith}
-use Rattle.numbers.proofs.WordLaws.{Finite, is-mark, not-mark, diff-of, under-free, under-low, under-new, under-old}
+use Rattle.numbers.proofs.WordLaws.{Finite, is-mark, not-mark, diff-of}
+use Rattle.numbers.proofs.WordLaws.{under-free, under-low, under-new, under-old}
 use Rattle.numbers.proofs.under.Statement.{statement}
 use Rattle.numbers.proofs.under.Tie as tie
 
@@ -54,5 +54,6 @@ returns-4 c =
     (under-old (s .args .m) (s .args .x) (s .args .g) fm (x-fin (c .before)) (g-fin (c .before)) (s .pre .0) (s .pre .1)
     (omega zarith))
 
+-- `under` meets its contract
 pub under-spec : {M : Type 1} → statement M
 under-spec = tie.close (tie.spec returns returns-2 sub-d returns-3 returns-4)

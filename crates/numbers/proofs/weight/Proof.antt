@@ -49,7 +49,8 @@ loop-again : tie.Need-loop-again Inv-loop μ-loop
 loop-again c =
     let l = c .before .before .before .before .loop in
     let h1 = c .before .before .under-arg .given in let h2 = c .before .under-arg2 .given in
-    let n = weigh-next (c .under .result) (l .m) (l .j) _ _ (c .under .ok) (l .inv .2) (simp back at (c .under .ensures)) in
+    let e = simp back at (c .under .ensures) in
+    let n = weigh-next (c .under .result) (l .m) (l .j) _ _ (c .under .ok) (l .inv .2) e in
     (omega arith, n .0, n .1)
 
 whole : (c : tie.After-loop Inv-loop μ-loop) → let a = c .before .before .args in
@@ -65,6 +66,7 @@ returns c = weigh-free _ _ _ _ (whole (c .before)) (c .if1 .taken)
 returns-2 : tie.Need-returns-2 Inv-loop μ-loop
 returns-2 c = weigh-cap _ _ _ _ (whole (c .before)) (omega arith) (c .if1 .left)
 
+-- `weight` meets its contract
 pub weight-spec : {M : Type 1} → statement M
 weight-spec =
     tie.close

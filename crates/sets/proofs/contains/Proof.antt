@@ -1,6 +1,5 @@
 use mathlib.Core.Path.{_≡_, sym, _∙_, ap}
 use native.Mathlib.Omega.{arith}
-use lib.ListN.{length}
 use Rattle.sets.specs.declared.Checked.{Checked}
 use Rattle.sets.specs.declared.Told.the-variants.{Refused}
 use Rattle.sets.specs.Calls.{containsInput}
@@ -27,18 +26,21 @@ why-requires : tie.Need-why-requires
 why-requires c κs = search needs
 
 -- the answer after the checks, by the rule
-after : (c : tie.After-contains) → let s = c .before .args in
-    tellAfter (c .contains .result) (inside (s .n) (s .list .now) (s .point .now)) ≡ containsOf (s .n) (s .list .now) (s .point .now)
+after : (c : tie.After-contains) → let s = c .before .args in let l = s .list .now in let p = s .point .now in
+    tellAfter (c .contains .result) (inside (s .n) l p) ≡ containsOf (s .n) l p
 unfolding containsOf
-after c = let s = c .before .args in ap (λ (k : Checked). tellAfter k (inside (s .n) (s .list .now) (s .point .now))) (c .contains .ensures)
+after c = let s = c .before .args in
+    ap (λ (k : Checked). tellAfter k (inside (s .n) (s .list .now) (s .point .now))) (c .contains .ensures)
 
-good : (c : tie.After-enum-told) → let s = c .before .before .before .args in Good (containsInput (s .n) (s .list .now) (s .point .now))
+good : (c : tie.After-enum-told) → let s = c .before .before .before .args in
+    Good (containsInput (s .n) (s .list .now) (s .point .now))
 good c = contains-good _ _ _ (sym (c .before .before .contains .ensures) ∙ c .enum-told .given .1)
 
 returns : tie.Need-returns
 returns c =
     let d = c .before .before .before in
-    contains-as _ _ _ (ap Refused (c .why .ensures) ∙ passed-up (d .contains .result) _ (c .before .before .match .keys2) ∙ after d)
+    contains-as _ _ _
+    (ap Refused (c .why .ensures) ∙ passed-up (d .contains .result) _ (c .before .before .match .keys2) ∙ after d)
 
 add-w : tie.Need-add-w
 add-w c = let g = good c .0 .0 .few in omega arith
@@ -50,7 +52,9 @@ div-generates : tie.Need-div-generates
 div-generates c = search needs
 
 array-share-prefix-words : tie.Need-array-share-prefix-words
-array-share-prefix-words c = let g = good (c .before .before) .0 .0 .few in omega (arith, c .before .point .ensures .long)
+array-share-prefix-words c =
+    let g = good (c .before .before) .0 .0 .few in
+    omega (arith, c .before .point .ensures .long)
 
 slice-aggregate-generates : tie.Need-slice-aggregate-generates
 slice-aggregate-generates c =
@@ -72,7 +76,8 @@ told c =
     let d = c .before .before .before .before in
     let s = d .before .before .before .args in
     let g = good d in
-    ap tell (c .generates .ensures ∙ inside-by _ _ _ (g .0 .2) (g .0 .0 .few) (c .before .before .before .point .ensures) _)
+    let e = c .before .before .before .point .ensures in
+    ap tell (c .generates .ensures ∙ inside-by _ _ _ (g .0 .2) (g .0 .0 .few) e _)
     ∙ ap (λ (k : Checked). tellAfter k (inside (s .n) (s .list .now) (s .point .now))) (sym (d .enum-told .given .1))
     ∙ after (d .before .before)
 
@@ -82,6 +87,7 @@ returns-2 c = contains-as _ _ _ (sym (ap tell (c .if1 .taken)) ∙ told (c .befo
 returns-3 : tie.Need-returns-3
 returns-3 c = contains-as _ _ _ (sym (ap tell (c .if1 .left)) ∙ told (c .before))
 
+-- `contains` meets its contract
 pub contains-spec : {M : Type 1} → statement M
 contains-spec =
     tie.close

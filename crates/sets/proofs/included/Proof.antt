@@ -1,6 +1,9 @@
 use mathlib.Core.Path.{_≡_, sym, _∙_, ap}
 use mathlib.Core.Bool.{Bool, true, cond}
+use mathlib.Core.List.{List}
+use Prim.Native.Nat.{ℕ}
 use native.Mathlib.Omega.{arith}
+use lib.IntN.{ℤ}
 use borrow.Author.Tests.{not-true, not-false}
 use Rattle.sets.specs.declared.Checked.{Checked}
 use Rattle.sets.specs.declared.Told.the-variants.{Refused}
@@ -26,38 +29,47 @@ enum-told-2 c = search needs
 why-requires : tie.Need-why-requires
 why-requires c κs = search needs
 
+-- the test's answer once it is known whether the inner list has a point
+abbrev test : Bool → ℕ → List ℤ → List ℤ → Bool
+test b n i o = cond b (covered n i o) true
+
 -- the answer after the checks, by the rule
 after : (c : tie.After-included) → let s = c .before .args in let i = s .inner .now in let o = s .outer .now in
-    tellAfter (c .included .result) (cond (hasPoint (s .n) i) (covered (s .n) i o) true) ≡ includedOf (s .n) i o
+    tellAfter (c .included .result) (test (hasPoint (s .n) i) (s .n) i o) ≡ includedOf (s .n) i o
 unfolding includedOf
-after c = let s = c .before .args in
-    ap (λ (k : Checked). tellAfter k (cond (hasPoint (s .n) (s .inner .now)) (covered (s .n) (s .inner .now) (s .outer .now)) true)) (c .included .ensures)
+after c = let s = c .before .args in let i = s .inner .now in
+    ap (λ (k : Checked). tellAfter k (test (hasPoint (s .n) i) (s .n) i (s .outer .now))) (c .included .ensures)
 
-good : (c : tie.After-enum-told) → let s = c .before .before .before .args in Good (includedInput (s .n) (s .inner .now) (s .outer .now))
+good : (c : tie.After-enum-told) → let s = c .before .before .before .args in
+    Good (includedInput (s .n) (s .inner .now) (s .outer .now))
 good c = included-good _ _ _ (sym (c .before .before .included .ensures) ∙ c .enum-told .given .1)
 
 -- good input is answered by the test
-told : (c : tie.After-enum-told) → let s = c .before .before .before .args in let i = s .inner .now in let o = s .outer .now in
-    tell (cond (hasPoint (s .n) i) (covered (s .n) i o) true) ≡ includedOf (s .n) i o
+told : (c : tie.After-enum-told) → let s = c .before .before .before .args in
+    let i = s .inner .now in let o = s .outer .now in
+    tell (test (hasPoint (s .n) i) (s .n) i o) ≡ includedOf (s .n) i o
 told c =
-    let s = c .before .before .before .args in
-    ap (λ (k : Checked). tellAfter k (cond (hasPoint (s .n) (s .inner .now)) (covered (s .n) (s .inner .now) (s .outer .now)) true))
+    let s = c .before .before .before .args in let i = s .inner .now in
+    ap (λ (k : Checked). tellAfter k (test (hasPoint (s .n) i) (s .n) i (s .outer .now)))
     (sym (c .enum-told .given .1)) ∙ after (c .before .before)
 
 returns : tie.Need-returns
 returns c =
     let d = c .before .before .before in
-    included-as _ _ _ (ap Refused (c .why .ensures) ∙ passed-up (d .included .result) _ (c .before .before .match .keys2) ∙ after d)
+    included-as _ _ _
+    (ap Refused (c .why .ensures) ∙ passed-up (d .included .result) _ (c .before .before .match .keys2) ∙ after d)
 
 has-point-requires : tie.Need-has-point-requires
 has-point-requires c κs = good c .0 .0 .few
 
 -- the test's answer, by whether the inner list has a point
-by-point : (c : tie.After-has-point) → let s = c .before .before .before .before .args in let i = s .inner .now in let o = s .outer .now in
-    tell (cond (c .has-point .result) (covered (s .n) i o) true) ≡ includedOf (s .n) i o
+by-point : (c : tie.After-has-point) → let s = c .before .before .before .before .args in
+    let i = s .inner .now in let o = s .outer .now in
+    tell (test (c .has-point .result) (s .n) i o) ≡ includedOf (s .n) i o
 by-point c =
     let s = c .before .before .before .before .args in
-    ap (λ (b : Bool). tell (cond b (covered (s .n) (s .inner .now) (s .outer .now)) true)) (c .has-point .ensures) ∙ told (c .before)
+    ap (λ (b : Bool). tell (test b (s .n) (s .inner .now) (s .outer .now))) (c .has-point .ensures)
+    ∙ told (c .before)
 
 by-cover : (c : tie.After-covered) → let s = c .before .before .before .before .before .before .args in
     tell (c .covered .result) ≡ includedOf (s .n) (s .inner .now) (s .outer .now)
@@ -65,7 +77,8 @@ by-cover c =
     let h = c .before .before in
     let s = h .before .before .before .before .args in
     ap tell (c .covered .ensures)
-    ∙ ap (λ (b : Bool). tell (cond b (covered (s .n) (s .inner .now) (s .outer .now)) true)) (sym (not-false (h .has-point .result) (c .before .if1 .left)))
+    ∙ ap (λ (b : Bool). tell (test b (s .n) (s .inner .now) (s .outer .now)))
+    (sym (not-false (h .has-point .result) (c .before .if1 .left)))
     ∙ by-point h
 
 returns-2 : tie.Need-returns-2
@@ -73,7 +86,8 @@ returns-2 c =
     let h = c .before in
     let s = h .before .before .before .before .args in
     included-as _ _ _
-    (sym (ap (λ (b : Bool). tell (cond b (covered (s .n) (s .inner .now) (s .outer .now)) true)) (not-true (h .has-point .result) (c .if1 .taken))) ∙ by-point h)
+    (sym (ap (λ (b : Bool). tell (test b (s .n) (s .inner .now) (s .outer .now)))
+    (not-true (h .has-point .result) (c .if1 .taken))) ∙ by-point h)
 
 covered-requires : tie.Need-covered-requires
 covered-requires c κs =
@@ -91,6 +105,7 @@ returns-3 c = included-as _ _ _ (sym (ap tell (c .if2 .taken)) ∙ by-cover (c .
 returns-4 : tie.Need-returns-4
 returns-4 c = included-as _ _ _ (sym (ap tell (c .if2 .left)) ∙ by-cover (c .before))
 
+-- `included` meets its contract
 pub included-spec : {M : Type 1} → statement M
 included-spec =
     tie.close

@@ -52,6 +52,7 @@ returns c =
     rw (toZ-ofZ (c .before .before .fits .last))
     (copied-done _ (l .words) (l .j) _ (l .inv) (omega arith) (omega arith))
 
+-- `ended` meets its contract
 pub ended-spec : {M : Type 1} → statement M
 ended-spec =
     tie.close

@@ -19,7 +19,9 @@ use Rattle.sets.proofs.against.covered.Statement.{statement}
 use Rattle.sets.proofs.against.covered.Tie as tie
 
 abbrev Inv-loop : tie.InvT-loop
-Inv-loop n inner outer w m k i₀ i = (i ≤ k) × (every i (λ j. attained (n + 1) (length outer / (n + 1)) (flat (n + 1) outer) (flat (n + 1) inner j)) ≡ true)
+Inv-loop n inner outer w m k i₀ i =
+    (i ≤ k)
+    × (every i (λ j. attained (n + 1) (length outer / (n + 1)) (flat (n + 1) outer) (flat (n + 1) inner j)) ≡ true)
 
 abbrev μ-loop : tie.MeasureT-loop
 μ-loop n inner outer w m k i₀ i = k - i
@@ -66,15 +68,18 @@ generates-requires c κs =
     (each-part l (s .loop .i * (n + 1)) (n + 1) r (p .ofInner)))
 
 -- what the test of vector i says
-tested : (c : tie.After-generates Inv-loop μ-loop) → let s = c .before .before .before in let a = s .before .args in let w = a .n + 1 in
-    c .generates .result ≡ attained w (length (a .outer .now) / w) (flat w (a .outer .now)) (flat w (a .inner .now) (s .loop .i))
+tested : (c : tie.After-generates Inv-loop μ-loop) → let s = c .before .before .before in
+    let a = s .before .args in let w = a .n + 1 in let o = a .outer .now in
+    c .generates .result ≡ attained w (length o / w) (flat w o) (flat w (a .inner .now) (s .loop .i))
 tested c =
     let s = c .before .before .before in
     let a = s .before .args in
     let w = a .n + 1 in
     let r = row-inside (s .loop .i) _ _ (c .before .before .loop-test .taken) in
-    c .generates .ensures ∙ ap (λ (v : List ℤ). generated (a .outer .now) (length (a .outer .now) / w) v) (part-is _ _ _)
-    ∙ generated-as _ _ _ w _ (part-long (a .inner .now) (s .loop .i * w) w r) (λ j b. part-flat w (a .inner .now) (s .loop .i) j b)
+    c .generates .ensures
+    ∙ ap (λ (v : List ℤ). generated (a .outer .now) (length (a .outer .now) / w) v) (part-is _ _ _)
+    ∙ generated-as _ _ _ w _ (part-long (a .inner .now) (s .loop .i * w) w r)
+    (λ j b. part-flat w (a .inner .now) (s .loop .i) j b)
 
 returns : tie.Need-returns Inv-loop μ-loop
 returns c =
@@ -83,7 +88,9 @@ returns c =
     (sym (tested (c .before)) ∙ not-true _ (c .if1 .taken))) ∙ covered-by (s .before .args .n) _ _
 
 add-i : tie.Need-add-i Inv-loop μ-loop
-add-i c = omega (arith, row-few (c .before .before .before .before .loop .i) _ _ (c .before .before .before .loop-test .taken))
+add-i c =
+    let t = c .before .before .before in
+    omega (arith, row-few (t .before .loop .i) _ _ (t .loop-test .taken))
 
 loop-less : tie.Need-loop-less Inv-loop μ-loop
 loop-less c = search needs
@@ -99,6 +106,7 @@ returns-2 c =
     every-done _ _ (l .i) (le-antisymm (l .inv .0) (c .loop-test .left)) (l .inv .1)
     ∙ covered-by (c .before .before .args .n) _ _
 
+-- `covered` meets its contract
 pub covered-spec : {M : Type 1} → statement M
 covered-spec =
     tie.close

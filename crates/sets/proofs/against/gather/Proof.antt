@@ -1,4 +1,4 @@
-use mathlib.Core.Path.{_≡_, sym, _∙_, subst}
+use mathlib.Core.Path.{sym, _∙_, subst}
 use Prim.Native.Nat.{ℕ, _≤_, _-_}
 use native.Mathlib.Nat.{le-antisymm}
 use native.Mathlib.Omega.{arith}
@@ -41,6 +41,7 @@ returns c =
     subst (λ (k : ℕ). Gathered (s .list .now) (s .used .now) (s .x .now) k (l .reached))
     (le-antisymm (l .inv .0) (c .loop-test .left)) (l .inv .1)
 
+-- `gather` meets its contract
 pub gather-spec : {M : Type 1} → statement M
 gather-spec =
     tie.close

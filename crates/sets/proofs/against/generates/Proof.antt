@@ -1,5 +1,6 @@
 use mathlib.Core.Path.{_≡_, sym, _∙_, ap}
 use native.Mathlib.Omega.{arith}
+use Rattle.sets.specs.Rules.{generated}
 use Rattle.sets.specs.Falls.{allUsed}
 use Rattle.sets.proofs.FallLaws.{nowhere, short-generated}
 use borrow.Author.Needs.{needs}
@@ -19,18 +20,21 @@ enum-told c = search needs
 enum-told-2 : tie.Need-enum-told-2
 enum-told-2 c = search needs
 
-returns : tie.Need-returns
+-- what the search for a short entry says of the vector
+found : (c : tie.After-short) → let s = c .before .before .args in
+    generated (s .list .now) (s .m) (s .x .now) ≡ nowhere (c .short .result)
 unfolding allUsed
-returns c =
-    let d = c .before .before .before .before in
-    sym (short-generated _ (d .args .m) _ (c .before .before .short .result) (omega (arith, d .pre .flags)) (c .before .before .short .ensures) ∙ ap nowhere (c .enum-told2 .given .1))
+found c =
+    let d = c .before .before in
+    short-generated _ (d .args .m) _ (c .short .result) (omega (arith, d .pre .flags)) (c .short .ensures)
+
+returns : tie.Need-returns
+returns c = sym (found (c .before .before) ∙ ap nowhere (c .enum-told2 .given .1))
 
 returns-2 : tie.Need-returns-2
-unfolding allUsed
-returns-2 c =
-    let d = c .before .before .before .before in
-    sym (short-generated _ (d .args .m) _ (c .before .before .short .result) (omega (arith, d .pre .flags)) (c .before .before .short .ensures) ∙ ap nowhere (c .enum-told .given .1))
+returns-2 c = sym (found (c .before .before) ∙ ap nowhere (c .enum-told .given .1))
 
+-- `generates` meets its contract
 pub generates-spec : {M : Type 1} → statement M
 generates-spec =
     tie.close

@@ -16,7 +16,7 @@ array-borrow-prefix-reached : tie.Need-array-borrow-prefix-reached
 array-borrow-prefix-reached c = search needs
 
 slice-aggregate-gather : tie.Need-slice-aggregate-gather
-slice-aggregate-gather c = let d = c .before .before in sym (blank-long _ (d .pre .few))
+slice-aggregate-gather c = let d = c .before .before in sym (blank-long _ _ (d .pre .few))
 
 gather-requires : tie.Need-gather-requires
 gather-requires c κs =
@@ -49,6 +49,7 @@ returns c =
     (subst (λ (v : List ℤ). Falls (length (s .x .now)) (entries v) (entries (s .x .now)) (c .first .result)) (front g)
     (c .first .ensures))
 
+-- `short` meets its contract
 pub short-spec : {M : Type 1} → statement M
 short-spec =
     tie.close

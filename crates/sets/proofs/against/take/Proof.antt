@@ -1,13 +1,12 @@
-use mathlib.Core.Path.{_≡_, sym, _∙_, subst}
+use mathlib.Core.Path.{subst}
 use mathlib.Core.List.{List}
 use Prim.Native.Nat.{_+_, _*_, _≤_}
 use native.Mathlib.Omega.{arith}
 use lib.IntN.{ℤ}
 use lib.ListN.{length}
 use Rattle.sets.specs.Falls.{Raised}
-use Rattle.sets.specs.Tests.{part}
 use Rattle.sets.proofs.RowLaws.{row-ends, part-is, part-long}
-use Rattle.sets.proofs.FallLaws.{each-wider, each-part, gathered-next, gathered-skip, gathered-each}
+use Rattle.sets.proofs.FallLaws.{each-part, gathered-next, gathered-skip, gathered-each}
 use borrow.Author.Needs.{needs}
 use Rattle.sets.proofs.against.take.Statement.{statement}
 use Rattle.sets.proofs.against.take.Tie as tie
@@ -60,14 +59,15 @@ returns c =
     let s = d .args in
     let w = length (s .x .now) in
     gathered-next _ _ _ (s .i) _ _ (c .before .before .before .before .if1 .taken) (d .pre .1)
-    (subst (λ (v : List ℤ). Raised (s .reached .now) v (s .x .now) (c .before .raise .last .0)) (part-is (s .list .now) (s .i * w) w)
-    (c .before .raise .ensures))
+    (subst (λ (v : List ℤ). Raised (s .reached .now) v (s .x .now) (c .before .raise .last .0))
+    (part-is (s .list .now) (s .i * w) w) (c .before .raise .ensures))
 
 returns-2 : tie.Need-returns-2
 returns-2 c =
     let d = c .before .before .before in
     gathered-skip _ _ _ (d .args .i) _ (c .if1 .left) (d .pre .1)
 
+-- `take` meets its contract
 pub take-spec : {M : Type 1} → statement M
 take-spec =
     tie.close

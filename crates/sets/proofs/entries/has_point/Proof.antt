@@ -40,7 +40,8 @@ mul-last-2 : tie.Need-mul-last-2 Inv-loop μ-loop
 mul-last-2 c = omega (arith, c .before .before .good, row-inside (c .before .loop .i) _ _ (c .loop-test .taken))
 
 shared-slice-copy-out-last : tie.Need-shared-slice-copy-out-last Inv-loop μ-loop
-shared-slice-copy-out-last c = omega (arith, c .before .before .good, row-inside (c .before .loop .i) _ _ (c .loop-test .taken))
+shared-slice-copy-out-last c =
+    omega (arith, c .before .before .good, row-inside (c .before .loop .i) _ _ (c .loop-test .taken))
 
 returns : tie.Need-returns Inv-loop μ-loop
 unfolding hasPoint flat
@@ -60,14 +61,17 @@ loop-again : tie.Need-loop-again Inv-loop μ-loop
 unfolding flat
 loop-again c =
     let l = c .before .before .before .loop in
-    (omega arith, some-more _ (l .i) (l .inv .1) (finite-mark (is-mark (record { sfits = c .before .last .given }) (c .if1 .left))))
+    let m = is-mark (record { sfits = c .before .last .given }) (c .if1 .left) in
+    (omega arith, some-more _ (l .i) (l .inv .1) (finite-mark m))
 
 returns-2 : tie.Need-returns-2 Inv-loop μ-loop
 unfolding hasPoint
 returns-2 c =
     let l = c .before .loop in
-    rw (← add-one (c .before .before .args .n)) (some-done _ _ (l .i) (le-antisymm (l .inv .0) (c .loop-test .left)) (l .inv .1))
+    rw (← add-one (c .before .before .args .n))
+    (some-done _ _ (l .i) (le-antisymm (l .inv .0) (c .loop-test .left)) (l .inv .1))
 
+-- `has_point` meets its contract
 pub has-point-spec : {M : Type 1} → statement M
 has-point-spec =
     tie.close

@@ -57,7 +57,8 @@ vector-fits-requires c κs =
     rw (part-is l (s .loop .i * w) w) (omega (arith, part-long l (s .loop .i * w) w r))
 
 -- what the test of vector i says
-tested : (c : tie.After-vector-fits Inv-loop μ-loop) → let s = c .before .before .before in let n = s .before .args .n in
+tested : (c : tie.After-vector-fits Inv-loop μ-loop) → let s = c .before .before .before in
+    let n = s .before .args .n in
     c .vector-fits .result ≡ vectorOk n (part (s .before .args .list .now) (s .loop .i * (n + 1)) (n + 1))
 tested c =
     let s = c .before .before .before in
@@ -72,7 +73,9 @@ returns c =
     (sym (tested (c .before)) ∙ not-true _ (c .if1 .taken))))
 
 add-i : tie.Need-add-i Inv-loop μ-loop
-add-i c = omega (arith, row-few (c .before .before .before .before .loop .i) _ _ (c .before .before .before .loop-test .taken))
+add-i c =
+    let t = c .before .before .before in
+    omega (arith, row-few (t .before .loop .i) _ _ (t .loop-test .taken))
 
 loop-less : tie.Need-loop-less Inv-loop μ-loop
 loop-less c = search needs
@@ -89,6 +92,7 @@ returns-2 c =
     rw (← add-one (c .before .before .args .n))
     (every-done _ _ (l .i) (le-antisymm (l .inv .0) (c .loop-test .left)) (l .inv .1))
 
+-- `list_fits` meets its contract
 pub list-fits-spec : {M : Type 1} → statement M
 list-fits-spec =
     tie.close

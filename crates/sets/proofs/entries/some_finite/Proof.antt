@@ -2,8 +2,6 @@ use mathlib.Core.Path.{_≡_, refl, sym}
 use mathlib.Core.Bool.{false}
 use Prim.Native.Nat.{_≤_, _-_}
 use native.Mathlib.Omega.{arith}
-use mir.Val.{SFits}
-use mir.Syntax.{w32}
 use Rattle.numbers.specs.Tests.{some}
 use Rattle.numbers.specs.Places.{entries}
 use Rattle.numbers.proofs.Tells.{some-more, some-stop, some-done}
@@ -45,12 +43,14 @@ loop-less c = search needs
 loop-again : tie.Need-loop-again Inv-loop μ-loop
 loop-again c =
     let l = c .before .before .before .loop in
-    (omega arith, some-more _ (l .j) (l .inv .1) (finite-mark (is-mark (record { sfits = c .before .x .given }) (c .if1 .left))))
+    let m = is-mark (record { sfits = c .before .x .given }) (c .if1 .left) in
+    (omega arith, some-more _ (l .j) (l .inv .1) (finite-mark m))
 
 returns-2 : tie.Need-returns-2 Inv-loop μ-loop
 unfolding someFinite
 returns-2 c = some-done _ (c .before .before .args .n) (c .before .loop .j) (omega arith) (c .before .loop .inv .1)
 
+-- `some_finite` meets its contract
 pub some-finite-spec : {M : Type 1} → statement M
 some-finite-spec =
     tie.close

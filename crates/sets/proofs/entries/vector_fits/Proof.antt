@@ -20,8 +20,8 @@ words-fit-requires c κs = search needs
 returns : tie.Need-returns
 returns c =
     let s = c .before .before .before .args in
-    c .words-fit .ensures
-    ∙ vector-point (s .n) (s .vector .now) (is-zero (record { sfits = c .before .before .last .given }) (c .before .if1 .taken))
+    let z = is-zero (record { sfits = c .before .before .last .given }) (c .before .if1 .taken) in
+    c .words-fit .ensures ∙ vector-point (s .n) (s .vector .now) z
 
 returns-2 : tie.Need-returns-2
 returns-2 c =
@@ -34,9 +34,11 @@ words-fit-requires-2 c κs = search needs
 
 returns-3 : tie.Need-returns-3
 returns-3 c =
-    let s = c .before .before .before .before .before .args in
-    let m = is-mark (record { sfits = c .before .before .before .before .last .given }) (c .before .before .if2 .left) in
-    let e : false ≡ wordsOk true (s .n) (s .vector .now) = sym (not-true _ (c .if3 .taken)) ∙ c .before .words-fit2 .ensures in
+    let t = c .before .before in
+    let s = t .before .before .before .args in
+    let m = is-mark (record { sfits = t .before .before .last .given }) (t .if2 .left) in
+    let e : false ≡ wordsOk true (s .n) (s .vector .now)
+    = sym (not-true _ (c .if3 .taken)) ∙ c .before .words-fit2 .ensures in
     ap (λ b. b && someFinite (s .n) (s .vector .now)) e ∙ vector-ray (s .n) (s .vector .now) m
 
 some-finite-requires : tie.Need-some-finite-requires
@@ -44,11 +46,14 @@ some-finite-requires c κs = search needs
 
 returns-4 : tie.Need-returns-4
 returns-4 c =
-    let s = c .before .before .before .before .before .before .args in
-    let m = is-mark (record { sfits = c .before .before .before .before .before .last .given }) (c .before .before .before .if2 .left) in
-    let e : true ≡ wordsOk true (s .n) (s .vector .now) = sym (not-false _ (c .before .if3 .left)) ∙ c .before .before .words-fit2 .ensures in
+    let t = c .before .before .before in
+    let s = t .before .before .before .args in
+    let m = is-mark (record { sfits = t .before .before .last .given }) (t .if2 .left) in
+    let e : true ≡ wordsOk true (s .n) (s .vector .now)
+    = sym (not-false _ (c .before .if3 .left)) ∙ c .before .before .words-fit2 .ensures in
     c .some-finite .ensures ∙ ap (λ b. b && someFinite (s .n) (s .vector .now)) e ∙ vector-ray (s .n) (s .vector .now) m
 
+-- `vector_fits` meets its contract
 pub vector-fits-spec : {M : Type 1} → statement M
 vector-fits-spec =
     tie.close

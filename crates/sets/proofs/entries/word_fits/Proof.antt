@@ -1,7 +1,3 @@
-use mathlib.Core.Path.{_≡_}
-use mathlib.Core.Bool.{true, false}
-use lib.IntN.{pos, negsuc}
-use lib.Signed.{ltZ}
 use mir.Facts.{toZ-ofZ}
 use Rattle.numbers.proofs.WordLaws.{is-mark, not-mark}
 use Rattle.sets.proofs.EntryLaws.{ray-mark, ray-low, ray-rest, point-low, point-rest}
@@ -36,5 +32,6 @@ returns-5 c =
     rw (c .before .if1 .left, toZ-ofZ (s .fits .x))
     (point-rest (s .fits .x) (rw (toZ-ofZ (s .fits .x)) at (c .if4 .left)))
 
+-- `word_fits` meets its contract
 pub word-fits-spec : {M : Type 1} → statement M
 word-fits-spec = tie.close (tie.spec returns returns-2 returns-3 returns-4 returns-5)

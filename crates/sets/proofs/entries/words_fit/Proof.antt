@@ -1,5 +1,5 @@
 use mathlib.Core.Path.{_≡_, refl, sym, _∙_}
-use mathlib.Core.Bool.{Bool, true, false}
+use mathlib.Core.Bool.{true}
 use Prim.Native.Nat.{_≤_, _-_}
 use native.Mathlib.Omega.{arith}
 use borrow.Author.Tests.{not-true, not-false}
@@ -39,7 +39,8 @@ returns : tie.Need-returns Inv-loop μ-loop
 unfolding wordsOk
 returns c =
     let s = c .before .before .before .before in
-    sym (every-stop _ (s .before .args .n) (s .loop .j) (omega arith) (sym (tested (c .before)) ∙ not-true _ (c .if1 .taken)))
+    sym (every-stop _ (s .before .args .n) (s .loop .j) (omega arith)
+    (sym (tested (c .before)) ∙ not-true _ (c .if1 .taken)))
 
 add-j : tie.Need-add-j Inv-loop μ-loop
 add-j c = search needs
@@ -56,6 +57,7 @@ returns-2 : tie.Need-returns-2 Inv-loop μ-loop
 unfolding wordsOk
 returns-2 c = every-done _ (c .before .before .args .n) (c .before .loop .j) (omega arith) (c .before .loop .inv .1)
 
+-- `words_fit` meets its contract
 pub words-fit-spec : {M : Type 1} → statement M
 words-fit-spec =
     tie.close

@@ -1,5 +1,5 @@
 use mathlib.Core.Path.{_≡_, sym, _∙_}
-use mathlib.Core.Bool.{true, false}
+use mathlib.Core.Bool.{true}
 use lib.ListN.{length}
 use borrow.Author.Tests.{not-true, not-false, eq-eqb, ne-eqb}
 use Rattle.sets.specs.Tests.{clocksOk, wholeOk, listOk}
@@ -16,10 +16,12 @@ clocks-requires c κs = search needs
 clocks-yes : (c : tie.Else1) → clocksOk (c .before .before .args .n) ≡ true
 clocks-yes c = sym (c .before .clocks .ensures) ∙ not-false _ (c .if1 .left)
 
-whole-yes : (c : tie.Else2) → let s = c .before .before .before .before .args in wholeOk (s .n) (length (s .list .now)) ≡ true
+whole-yes : (c : tie.Else2) → let s = c .before .before .before .before .args in
+    wholeOk (s .n) (length (s .list .now)) ≡ true
 whole-yes c = sym (c .before .whole .ensures) ∙ not-false _ (c .if2 .left)
 
-list-yes : (c : tie.Else4) → let s = c .before .before .before .before .before .before .before .args in listOk (s .n) (s .list .now) ≡ true
+list-yes : (c : tie.Else4) → let s = c .before .before .before .before .before .before .before .args in
+    listOk (s .n) (s .list .now) ≡ true
 list-yes c = sym (c .before .list-fits .ensures) ∙ not-false _ (c .if4 .left)
 
 returns : tie.Need-returns
@@ -78,6 +80,7 @@ returns-6 c =
       sym (c .before .words-fit .ensures) ∙ not-false _ (c .if5 .left),
     )
 
+-- `contains` meets its contract
 pub contains-spec : {M : Type 1} → statement M
 contains-spec =
     tie.close

@@ -1,5 +1,5 @@
 use mathlib.Core.Path.{_≡_, sym, _∙_}
-use mathlib.Core.Bool.{true, false}
+use mathlib.Core.Bool.{true}
 use lib.ListN.{length}
 use borrow.Author.Tests.{not-true, not-false}
 use Rattle.sets.specs.Tests.{clocksOk, wholeOk, listOk}
@@ -16,7 +16,8 @@ clocks-requires c κs = search needs
 clocks-yes : (c : tie.Else1) → clocksOk (c .before .before .args .n) ≡ true
 clocks-yes c = sym (c .before .clocks .ensures) ∙ not-false _ (c .if1 .left)
 
-inner-whole : (c : tie.Else2) → let s = c .before .before .before .before .args in wholeOk (s .n) (length (s .inner .now)) ≡ true
+inner-whole : (c : tie.Else2) → let s = c .before .before .before .before .args in
+    wholeOk (s .n) (length (s .inner .now)) ≡ true
 inner-whole c = sym (c .before .whole .ensures) ∙ not-false _ (c .if2 .left)
 
 outer-whole : (c : tie.Else3) → let s = c .before .before .before .before .before .before .args in
@@ -88,6 +89,7 @@ returns-6 c =
       sym (c .before .list-fits2 .ensures) ∙ not-false _ (c .if5 .left),
     )
 
+-- `included` meets its contract
 pub included-spec : {M : Type 1} → statement M
 included-spec =
     tie.close

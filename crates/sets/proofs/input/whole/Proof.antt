@@ -1,4 +1,3 @@
-use mathlib.Core.Path.{_≡_}
 use Prim.Native.Nat.{_+_}
 use native.Mathlib.Nat.{div-mul-le-self}
 use native.Mathlib.Numerals.{add-one}
@@ -26,5 +25,6 @@ returns-2 : tie.Need-returns-2
 unfolding wholeOk
 returns-2 c = rw (← add-one (c .before .args .n), eq-eqb _ _ (c .if1 .left))
 
+-- `whole` meets its contract
 pub whole-spec : {M : Type 1} → statement M
 whole-spec = tie.close (tie.spec add-w div-m mul-if1 returns returns-2)
