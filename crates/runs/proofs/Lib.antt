@@ -1,0 +1,17 @@
+pub mod Computed
+pub mod Stable
+pub mod Paths
+pub mod Loops
+pub mod Counts
+pub mod Depths
+pub mod TableLaws
+pub mod ProperLists
+pub mod StepLaws
+pub mod CallLaws
+pub mod Covering
+pub mod Entering
+pub mod Meaning
+pub mod Examples
+pub mod Settled
+pub mod Checking
+pub mod LimitRows
