@@ -25,6 +25,7 @@ pub data Before (n : ℕ) (v w : Vector) : Type 0 where
   kinds : IsPoint n v → IsRay n w → Before n v w
   clocks : entry v n ≡ entry w n → Lower n v w → Before n v w
 
+-- L is the canonical list of its set
 pub record Canonical (n : ℕ) (L : List Vector) : Type 0 where
   -- vectors of n + 1 entries, points and rays
   pub long : (i : ℕ) → i < length L → length (vector L i) ≡ suc n

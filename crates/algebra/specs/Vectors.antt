@@ -9,6 +9,7 @@ use Rattle.numbers.specs.Numbers.{Num, −∞, nought}
 use Rattle.numbers.specs.Words.{number, word}
 use Rattle.numbers.specs.Places.{Vec}
 
+-- a vector is the list of its numbers
 abbrev pub Vector : Type 0
 Vector = List Num
 
@@ -33,6 +34,7 @@ tab (suc n) X = X 0 ∷ tab n (λ j. X (suc j))
 abbrev pub IsPoint : ℕ → Vector → Type 0
 IsPoint n v = entry v n ≡ nought
 
+-- a ray has −∞ there
 abbrev pub IsRay : ℕ → Vector → Type 0
 IsRay n v = entry v n ≡ −∞
 

@@ -21,6 +21,7 @@ Satisfies n ab cd x = side n ab x ≼ side n cd x
 abbrev pub left : ℕ → List ℤ → Vector
 left n h = map number (take (suc n) h)
 
+-- the right side: c and d
 abbrev pub right : ℕ → List ℤ → Vector
 right n h = map number (drop (suc n) h)
 

@@ -1,36 +1,85 @@
--- All rows are right: the rule of each call computes the answer expected, and the rule meets the contract.
+-- All rows are right: the rule of each call computes the answer and the area expected, and the rule meets the contract.
 use mathlib.Core.List.{List, [], _∷_}
-use mathlib.Core.Path.{_≡_, refl}
+use mathlib.Core.Path.{_≡_, refl, sym, subst}
+use lib.IntN.{ℤ}
 use Rattle.numbers.specs.Numbers.{_⊕_, ⨁}
 use Rattle.numbers.specs.Words.{number}
+use Rattle.numbers.specs.Places.{sideOf}
 use Rattle.numbers.specs.Weights.{lower, meet, allowed, weightOf}
 use Rattle.algebra.specs.Reach.{reach}
+use Rattle.algebra.specs.Vectors.{tab, pieces, vectors, words}
+use Rattle.algebra.specs.Working.{each, sideAt, satisfies, crossing, crossings, intersectList}
+use Rattle.algebra.specs.Working.{somePoint, withPoint, hullList, normal}
+use Rattle.sets.specs.Falls.{masked}
 use Rattle.sets.specs.Tests.{wordsOk, someFinite, vectorOk, part, clocksOk, wholeOk, listOk}
 use Rattle.sets.specs.Rules.{flat, attained, inside, hasPoint, covers, covered, containsChecked, containsOf}
 use Rattle.sets.specs.Rules.{includedChecked, includedOf}
 use Rattle.sets.proofs.Asking.{contains-as, included-as}
-use Rattle.examples.specs.Rows.{Row, contains, included, Right, AllRight, rows}
+use Rattle.making.specs.declared.Made.{Made}
+use Rattle.making.specs.Clean.{tryOne, cleanFrom, cleanFlags, kept, lowerFrom, earlier, insert, sorted, cleaned}
+use Rattle.making.specs.Clean.{canonicalOf}
+use Rattle.making.specs.Rules.{Result, rangeOk, finished, shapeOk, intersectChecked, intersectOf, delayChecked}
+use Rattle.making.specs.Rules.{delayOf, resetChecked, resetOf, hullChecked, hullOf}
+use Rattle.making.proofs.Rules.{intersect-meets, delay-meets, reset-meets, hull-meets}
+use Rattle.examples.specs.Rows.{Row, contains, included, intersect, delay, reset, hull, Right, AllRight, rows}
 
--- the rule gives the answer expected
+-- the result of a rule is the answer and the area expected
+abbrev Gives : Result → Made → List ℤ → Type 0
+Gives result answer after = (answer ≡ result .made) × (after ≡ result .area)
+
+-- the rule gives what is expected
 abbrev Computes : Row → Type 0
 Computes (contains n list point answer) = answer ≡ containsOf n list point
 Computes (included n inner outer answer) = answer ≡ includedOf n inner outer
+Computes (intersect n list half before answer after) = Gives (intersectOf n list half before) answer after
+Computes (delay n list before answer after) = Gives (delayOf n list before) answer after
+Computes (reset n list clock value before answer after) = Gives (resetOf n list clock value before) answer after
+Computes (hull n one other before answer after) = Gives (hullOf n one other before) answer after
+
+-- what holds of a result holds of the answer and the area that it gives
+given : (P : Made → List ℤ → Type 0) (result : Result) (answer : Made) (after : List ℤ)
+    → Gives result answer after → P (result .made) (result .area) → P answer after
+given P result answer after e h =
+    subst (λ a. P a after) (sym (e .0)) (subst (P (result .made)) (sym (e .1)) h)
 
 -- then the row is right
 right : (r : Row) → Computes r → Right r
 right (contains n list point answer) e = contains-as n list point e
 right (included n inner outer answer) e = included-as n inner outer e
+right (intersect n list half before answer after) e =
+    given (λ a w. Right (intersect n list half before a w)) (intersectOf n list half before) answer after e
+    (intersect-meets n list half before)
+right (delay n list before answer after) e =
+    given (λ a w. Right (delay n list before a w)) (delayOf n list before) answer after e (delay-meets n list before)
+right (reset n list clock value before answer after) e =
+    given (λ a w. Right (reset n list clock value before a w)) (resetOf n list clock value before) answer after e
+    (reset-meets n list clock value before)
+right (hull n one other before answer after) e =
+    given (λ a w. Right (hull n one other before a w)) (hullOf n one other before) answer after e
+    (hull-meets n one other before)
 
+-- of every row of a list
 abbrev AllCompute : List Row → Type 0
 AllCompute [] = Unit {0}
 AllCompute (r ∷ rows) = Computes r × AllCompute rows
 
+-- then all are right
 all-right : (l : List Row) → AllCompute l → AllRight l
 all-right [] h = tt
 all-right (r ∷ l) h = (right r (h .0), all-right l (h .1))
 
+-- one row and those behind it
+infixr 5 _▹_
+_▹_ : {A B : Type 0} → A → B → A × B
+a ▹ b = (a, b)
+
 -- every row is right
 pub examples-right : AllRight rows
 unfolding rows containsOf containsChecked includedOf includedChecked inside hasPoint covers covered attained flat reach
-    weightOf allowed meet lower wordsOk someFinite vectorOk part clocksOk wholeOk listOk number ⨁ _⊕_
-examples-right = all-right rows (refl, (refl, (refl, (refl, (refl, tt)))))
+    weightOf allowed meet lower wordsOk someFinite vectorOk part clocksOk wholeOk listOk number ⨁ _⊕_ intersectOf
+    intersectChecked delayOf delayChecked resetOf resetChecked hullOf hullChecked shapeOk finished rangeOk canonicalOf
+    cleaned sorted insert earlier lowerFrom kept cleanFlags cleanFrom tryOne masked normal hullList withPoint somePoint
+    intersectList crossings crossing satisfies sideAt sideOf each vectors pieces words tab
+examples-right = all-right rows (
+    (refl, refl) ▹ (refl, refl) ▹ (refl, refl) ▹ refl ▹ refl ▹ (refl, refl) ▹ refl ▹ refl ▹ (refl, refl) ▹ refl
+    ▹ (refl, refl) ▹ (refl, refl) ▹ tt)

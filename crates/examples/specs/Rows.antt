@@ -1,46 +1,109 @@
--- The worked examples (docs/RULES.md, "Examples"): each row is a call, its arguments and the answer expected.
-use mathlib.Core.List.{List, [], _∷_}
-use Prim.Native.Nat.{ℕ}
+-- The worked examples (docs/RULES.md, "Examples"): each row is a call, its arguments and the answer expected; of a
+-- call that makes a set, also the result area before and after.
+use mathlib.Core.List.{List, [], _∷_, _++_}
+use Prim.Native.Nat.{ℕ, suc, _*_}
 use lib.IntN.{ℤ, pos, negsuc}
+use lib.ListN.{length, drop, replicate}
 use Rattle.numbers.specs.Words.{mark}
+use Rattle.numbers.specs.declared.Refusal.the-variants.{Range}
 use Rattle.sets.specs.Calls.{Contains, IsIncluded}
 use Rattle.sets.specs.declared.Told.{Told}
 use Rattle.sets.specs.declared.Told.the-variants.{Yes, No}
+use Rattle.making.specs.Calls.{Intersects, Delays, Resets, Hulls}
+use Rattle.making.specs.declared.Made.{Made}
+use Rattle.making.specs.declared.Made.the-variants.{Vectors, Refused}
 
+-- a call with its arguments, then the answer; where a set is made, the area, the answer and the area afterwards
 pub data Row : Type 0 where
   contains : ℕ → List ℤ → List ℤ → Told → Row
   included : ℕ → List ℤ → List ℤ → Told → Row
+  intersect : ℕ → List ℤ → List ℤ → List ℤ → Made → List ℤ → Row
+  delay : ℕ → List ℤ → List ℤ → Made → List ℤ → Row
+  reset : ℕ → List ℤ → ℕ → ℤ → List ℤ → Made → List ℤ → Row
+  hull : ℕ → List ℤ → List ℤ → List ℤ → Made → List ℤ → Row
 
--- a row is right if the call's contract allows the answer
+-- a row is right if the call's contract allows the answer and the area afterwards
 abbrev pub Right : Row → Type 0
 Right (contains n list point answer) = Contains n list point answer
 Right (included n inner outer answer) = IsIncluded n inner outer answer
+Right (intersect n list half before answer after) = Intersects n list half before answer after
+Right (delay n list before answer after) = Delays n list before answer after
+Right (reset n list clock value before answer after) = Resets n list clock value before answer after
+Right (hull n one other before answer after) = Hulls n one other before answer after
 
 -- every row of a list is right
 abbrev pub AllRight : List Row → Type 0
 AllRight [] = Unit {0}
 AllRight (r ∷ rows) = Right r × AllRight rows
 
+-- ---- result areas
+-- an area of 32(n + 1) words, each 7
+abbrev area : ℕ → List ℤ
+area n = replicate (32 * suc n) (pos 7)
+
+-- that area with a list at its start, and nothing behind the list touched
+abbrev areaWith : ℕ → List ℤ → List ℤ
+areaWith n list = list ++ drop (length list) (area n)
+
+-- ---- lists
+-- points (1,1), (3,1) and (1,3)
+abbrev corner : List ℤ
+corner = pos 1 ∷ pos 1 ∷ pos 0 ∷ pos 3 ∷ pos 1 ∷ pos 0 ∷ pos 1 ∷ pos 3 ∷ pos 0 ∷ []
+
 -- point (1,1) with rays (−2,0) and (0,−2)
 abbrev cone : List ℤ
 cone = pos 1 ∷ pos 1 ∷ pos 0 ∷ negsuc 1 ∷ pos 0 ∷ mark ∷ pos 0 ∷ negsuc 1 ∷ mark ∷ []
+
+-- point (0,1) with ray (−∞,0)
+abbrev upright : List ℤ
+upright = pos 0 ∷ pos 1 ∷ pos 0 ∷ mark ∷ pos 0 ∷ mark ∷ []
 
 -- points (0,0) and (2,1)
 abbrev pair : List ℤ
 pair = pos 0 ∷ pos 0 ∷ pos 0 ∷ pos 2 ∷ pos 1 ∷ pos 0 ∷ []
 
+-- points (k,0) and (5,0)
+abbrev segment : ℕ → List ℤ
+segment k = pos k ∷ pos 0 ∷ pos 0 ∷ pos 5 ∷ pos 0 ∷ pos 0 ∷ []
+
 -- the ray (0,−5) alone
 abbrev ray : List ℤ
 ray = pos 0 ∷ negsuc 4 ∷ mark ∷ []
 
+-- point (1000000,k) with ray (0,z)
+abbrev far : ℕ → ℤ → List ℤ
+far k z = pos 1000000 ∷ pos k ∷ pos 0 ∷ pos 0 ∷ z ∷ mark ∷ []
+
+-- ---- half-spaces, in the order a, b, c, d
+-- clock 0 ≥ 2
+abbrev late : List ℤ
+late = mark ∷ mark ∷ pos 2 ∷ pos 0 ∷ mark ∷ mark ∷ []
+
+-- clock 1 ≥ 1
+abbrev above : List ℤ
+above = mark ∷ mark ∷ pos 1 ∷ mark ∷ pos 0 ∷ mark ∷ []
+
+-- the table
 unfoldable pub rows : List Row
 rows =
+    -- 1: one clock, point 0, delayed: point 0, ray 0
+    delay 1 (pos 0 ∷ pos 0 ∷ []) (area 1) (Vectors 2) (areaWith 1 (pos 0 ∷ pos 0 ∷ pos 0 ∷ mark ∷ []))
+    -- 2: the points (1,1), (3,1) and (1,3) delayed are the cone
+    ∷ delay 2 corner (area 2) (Vectors 3) (areaWith 2 cone)
+    -- 3: the cone with clock 0 reset to 0 is (0,1) with ray (−∞,0)
+    ∷ reset 2 cone 0 (pos 0) (area 2) (Vectors 2) (areaWith 2 upright)
     -- 4: in the cone, (2,4) is and (2,5) is not
-    contains 2 cone (pos 2 ∷ pos 4 ∷ []) Yes
+    ∷ contains 2 cone (pos 2 ∷ pos 4 ∷ []) Yes
     ∷ contains 2 cone (pos 2 ∷ pos 5 ∷ []) No
-    -- 5: in the hull of (0,0) and (2,1), (1,0) is and (1,1) is not
+    -- 5: the hull of (0,0) and (2,1) has these two points; in it, (1,0) is and (1,1) is not
+    ∷ hull 2 (pos 0 ∷ pos 0 ∷ pos 0 ∷ []) (pos 2 ∷ pos 1 ∷ pos 0 ∷ []) (area 2) (Vectors 2) (areaWith 2 pair)
     ∷ contains 2 pair (pos 1 ∷ pos 0 ∷ []) Yes
     ∷ contains 2 pair (pos 1 ∷ pos 1 ∷ []) No
+    -- 6: points (0,0) and (5,0) with clock 0 ≥ 2: (2,0) and (5,0)
+    ∷ intersect 2 (segment 0) late (area 2) (Vectors 2) (areaWith 2 (segment 2))
     -- 7: a ray without points is included in the empty set
     ∷ included 2 ray [] Yes
+    -- 8: point (1000000,0) with clock 1 ≥ 1: RANGE with ray (0,−1000000); with ray (0,0), point (1000000,1)
+    ∷ intersect 2 (far 0 (negsuc 999999)) above (area 2) (Refused Range) (area 2)
+    ∷ intersect 2 (far 0 (pos 0)) above (area 2) (Vectors 2) (areaWith 2 (far 1 (pos 0)))
     ∷ []

@@ -2,7 +2,7 @@
 use mathlib.Core.Bool.{Bool, true, false, cond}
 use mathlib.Core.List.{List, [], _∷_, _++_, map}
 use mathlib.Core.Path.{_≡_, refl, sym, _∙_, ap, subst}
-use Prim.Native.Nat.{ℕ, zero, suc, _+_, _*_, _/_, _≤_, _<_}
+use Prim.Native.Nat.{ℕ, suc, _+_, _*_, _/_, _≤_, _<_}
 use native.Mathlib.Nat.{add-zero, mul-one, mul-le-mul, mul-le-mul-left}
 use native.Mathlib.Omega.{arith}
 use denote.Enum.Declared.{tagOf}
@@ -11,9 +11,8 @@ use lib.ListN.{length, replicate, length-map, length-append, length-replicate, g
 use Rattle.numbers.specs.Numbers.{Num, −∞, fin, _▷_, Within}
 use Rattle.numbers.specs.Words.{number}
 use Rattle.numbers.specs.Places.{entries, Each}
-use Rattle.numbers.specs.Tests.{some}
 use Rattle.numbers.specs.declared.Refusal.{Refusal}
-use Rattle.algebra.specs.Vectors.{Vector, entry, vector, vectors, count, pieces}
+use Rattle.algebra.specs.Vectors.{Vector, entry, vector, vectors, count}
 use Rattle.algebra.specs.Wanted.{left, right}
 use Rattle.algebra.specs.Working.{isPoint, somePoint, normal, withPoint}
 use Rattle.algebra.specs.Working.{intersectList, delayList, resetList, hullList}
@@ -21,12 +20,12 @@ use Rattle.algebra.proofs.Lists.{vectors-length}
 use Rattle.sets.specs.declared.Checked.{Checked}
 use Rattle.sets.specs.declared.Checked.the-variants.{Good, Refused as CheckedRefused}
 use Rattle.sets.specs.Demands.{Input, Good as GoodInput}
-use Rattle.sets.specs.Tests.{finite}
 use Rattle.sets.specs.Rules.{flat, hasPoint, whyOf}
 use Rattle.sets.proofs.Checked.{the-type}
 use Rattle.sets.proofs.FlatLaws.{family-flat}
 use Rattle.sets.proofs.TestLaws.{loose-within}
 use Rattle.sorting.specs.Rows.{held}
+use Rattle.sorting.proofs.Held.{held-none}
 use Rattle.making.specs.declared.Made.{Made}
 use Rattle.making.specs.declared.Made.the-variants.{Refused}
 use Rattle.making.specs.declared.build.Change.{Change}
@@ -41,17 +40,10 @@ use Rattle.making.specs.Rules.{resetChecked, resetOf, hullChecked, hullO
 use Rattle.making.specs.Work.{Added, Grown}
 use Rattle.making.proofs.BuildLaws.{added-none, added-append, rows-count, steps-count}
 use Rattle.making.proofs.Normal.{map-at, normal-at, normals-kinds, shiftOf}
+use Rattle.making.proofs.FinishLaws.{some-ext, finite-point}
 use Rattle.making.proofs.Rules.{Found, intersect-meets, delay-meets, reset-meets, hull-meets}
 
 -- ---- whether a list has a point
-some-same : {p q : ℕ → Bool} (m : ℕ) → ((i : ℕ) → i < m → p i ≡ q i) → some m p ≡ some m q
-some-same zero h = refl
-some-same (suc m) h = rw (some-same m (λ i l. h i (omega arith)), h m (omega arith))
-
-finite-point : (x : Num) → finite x ≡ isPoint x
-finite-point −∞ = refl
-finite-point (fin z) = refl
-
 shifted-point : (c : ℤ) (x : Num) → isPoint (c ▷ x) ≡ isPoint x
 shifted-point c −∞ = refl
 shifted-point c (fin z) = refl
@@ -59,13 +51,13 @@ shifted-point c (fin z) = refl
 -- of the words of a list, and of its vectors
 point-words : (n : ℕ) (l : List ℤ) → hasPoint n l ≡ somePoint n (vectors n l)
 unfolding hasPoint somePoint
-point-words n l = rw (vectors-length n l) (some-same (count n l) (λ i b. finite-point (flat (suc n) l i n)
+point-words n l = rw (vectors-length n l) (some-ext (count n l) (λ i b. finite-point (flat (suc n) l i n)
     ∙ ap isPoint (sym (family-flat n l i n b (omega arith)))))
 
 -- of the shifted vectors, and of the vectors
 point-normals : (n : ℕ) (L : List Vector) → somePoint n (map (normal n) L) ≡ somePoint n L
 unfolding somePoint
-point-normals n L = rw (length-map L (normal n)) (some-same (length L) (λ i l.
+point-normals n L = rw (length-map L (normal n)) (some-ext (length L) (λ i l.
     ap (λ (v : Vector). isPoint (entry v n)) (map-at (normal n) L i l)
     ∙ ap isPoint (normal-at n (vector L i) n (omega arith))
     ∙ shifted-point (shiftOf n (vector L i)) (entry (vector L i) n)))
@@ -100,6 +92,7 @@ room-of n k clocks few = omega (arith, all)
     all : k * suc n ≤ 272 * 7
     all = mul-le-mul few wide
 
+-- so a list can be put into working memory, if at most 272 vectors stand there then
 pub growable : (change : Change) (n : ℕ) (l work : List ℤ) (k : ℕ) → n ≤ 6 → Each 1000000 l → ChangeLimits n change
     → length work ≡ 1904 → k + count n l ≤ 272 → Growable n change l work k
 growable change n l work k clocks near limits long few = record {
@@ -114,6 +107,7 @@ growable change n l work k clocks near limits long few = record {
 pub count-words : (n : ℕ) (l : List ℤ) → length l / (n + 1) ≡ count n l
 count-words n l = sym (rows-count n l) ∙ vectors-length n l
 
+-- counted by words or as a list, at most 32 vectors
 pub few-vectors : (n : ℕ) (l : List ℤ) → count n l ≤ 32 → length (vectors n l) ≤ 32
 few-vectors n l h = omega (arith, vectors-length n l)
 
@@ -128,6 +122,7 @@ pub each-grown : (change : Change) (n : ℕ) (l work : List ℤ) (k r : ℕ) (af
 each-grown change n l work k r after e a =
     record { added = a; count = omega (arith, e, steps-count (changedBy change n) n l) }
 
+-- with no vector changed, the list itself is put there
 pub stay-grown : (n : ℕ) (l work : List ℤ) (k r : ℕ) (after : List ℤ) → r ≡ k + length l / (n + 1)
     → Added n work k (map (changedBy Stay n) (vectors n l)) after → Grown n work k (vectors n l) r after
 stay-grown n l work k r after e a =
@@ -150,6 +145,7 @@ unfolding withPoint
 pointed-none n l work k e =
     rw (sym (point-words n l) ∙ e) (record { added = added-none n work k; count = sym (add-zero k) })
 
+-- a list with a point is put there whole
 pub pointed-all : (n : ℕ) (l work : List ℤ) (k r : ℕ) (after : List ℤ) → hasPoint n l ≡ true
     → Grown n work k (vectors n l) r after → Grown n work k (withPoint n (vectors n l)) r after
 unfolding withPoint
@@ -163,10 +159,6 @@ unfolding hullList
 hull-grown n work A B = grown-append n work 0 (withPoint n A) (withPoint n B)
 
 -- ---- the result of the vectors L in working memory
-held-none : (w : ℕ) (work : List ℤ) → held w 0 work ≡ []
-unfolding held pieces
-held-none w work = refl
-
 module _ (n : ℕ) (work : List ℤ) (L : List Vector) (k : ℕ) (after : List ℤ) (g : Grown n work 0 L k after) where
   -- the first k vectors are those of L, shifted
   held-normals : held (suc n) k after ≡ map (normal n) L
@@ -223,12 +215,14 @@ pub passed : (c : Input) (n : ℕ) {k q : Checked} → Found c n q → k ≡ q �
 passed c n f e g = subst (Found c n) (sym e ∙ g) f
 
 -- ---- the four calls
+-- delay, whose points are copied among the rays
 pub delay-ends : (n : ℕ) (l area : List ℤ)
     → Ends (Delays n l area) (delayChecked n l area) n (delayList n (vectors n l)) area
 unfolding delayOf
 delay-ends n l area =
     ends (Delays n l area) (delayChecked n l area) n (delayList n (vectors n l)) area (delay-meets n l area)
 
+-- reset of clock i to c
 pub reset-ends : (n : ℕ) (l : List ℤ) (i : ℕ) (c : ℤ) (area : List ℤ)
     → Ends (Resets n l i c area) (resetChecked n l i c area) n (resetList n i c (vectors n l)) area
 unfolding resetOf
@@ -236,6 +230,7 @@ reset-ends n l i c area =
     ends (Resets n l i c area) (resetChecked n l i c area) n (resetList n i c (vectors n l)) area
     (reset-meets n l i c area)
 
+-- hull of two lists
 pub hull-ends : (n : ℕ) (l m area : List ℤ)
     → Ends (Hulls n l m area) (hullChecked n l m area) n (hullList n (vectors n l) (vectors n m)) area
 unfolding hullOf
@@ -243,6 +238,7 @@ hull-ends n l m area =
     ends (Hulls n l m area) (hullChecked n l m area) n (hullList n (vectors n l) (vectors n m)) area
     (hull-meets n l m area)
 
+-- intersection with the half-space h
 pub intersect-ends : (n : ℕ) (l h area : List ℤ) → Ends (Intersects n l h area) (intersectChecked n l h area) n
     (intersectList n (left n h) (right n h) (vectors n l)) area
 unfolding intersectOf

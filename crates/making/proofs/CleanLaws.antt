@@ -60,11 +60,13 @@ module _ (d m : ℕ) (G : ℕ → Vec) (flags : List Bool) (i : ℕ) where
   unfolding tryOne
   try-drops e = rw e
 
+  -- the others do not generate it: its flag is as it was
   pub try-keeps : attained d m (masked (set flags i false) G) (G i) ≡ false
       → set (set flags i false) i (getD flags i false) ≡ tryOne d m G flags i
   unfolding tryOne
   try-keeps e = rw e (set-set flags i false (getD flags i false) ∙ set-getD flags i false)
 
+  -- the number of flags stays
   pub try-long : (after : List Bool) → after ≡ tryOne d m G flags i → length after ≡ length flags
   unfolding tryOne
   try-long after e = ap length e ∙ go (attained d m (masked (set flags i false) G) (G i))
@@ -78,16 +80,19 @@ module _ (d m : ℕ) (G : ℕ → Vec) (flags : List Bool) (i : ℕ) where
   unfolding cleanFrom
   clean-next l = let e : m - i ≡ suc (m - suc i) = omega arith in rw (e, add-one i)
 
+  -- with one more vector tried, what is left decides the same flags
   pub clean-more : (after last : List Bool) (k : ℕ) → k ≡ m → after ≡ tryOne d k G flags i → i < m
       → cleanFrom d m G flags i (m - i) ≡ last → cleanFrom d m G after (i + 1) (m - (i + 1)) ≡ last
   clean-more after last k q e l h =
       ap (λ (f : List Bool). cleanFrom d m G f (i + 1) (m - (i + 1))) (e ∙ ap (λ (k : ℕ). tryOne d k G flags i) q)
       ∙ sym (clean-next l) ∙ h
 
+  -- with none left to try, the flags are those that there are
   pub clean-done : m ≤ i → cleanFrom d m G flags i (m - i) ≡ flags
   unfolding cleanFrom
   clean-done h = let e : m - i ≡ 0 = omega arith in rw e
 
+-- with all flags on, all vectors are left to try
 pub clean-start : (d m : ℕ) (G : ℕ → Vec) (flags : List Bool) → flags ≡ replicate m true
     → cleanFrom d m G flags 0 (m - 0) ≡ cleanFlags d m G
 unfolding cleanFlags

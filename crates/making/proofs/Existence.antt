@@ -25,12 +25,13 @@ use Rattle.algebra.proofs.Canon.{Earlier, by-kind, by-clock, strict}
 use Rattle.algebra.proofs.CanonicalLists.{before, generated-iff}
 use Rattle.algebra.proofs.Lists.{listed, Spans, spot, in-span, own}
 use Rattle.algebra.proofs.Made.{Long, Pointed, rays-only}
+use Rattle.sorting.proofs.Order.{same-vector}
 use Rattle.making.specs.Clean.{cleanFlags, kept, sorted, cleaned, canonicalOf}
 use Rattle.making.proofs.Normal.{Shifted, point, ray, blank, shifted-kind, map-at, normal-point}
 use Rattle.making.proofs.Normal.{normal-shifted, normal-each, normals-long, normals-shifted, normals-kinds}
 use Rattle.making.proofs.Members.{no-place, Has, has-at, Kept, has-kept}
 use Rattle.making.proofs.Cleaned.{On, flags-clean}
-use Rattle.making.proofs.Sorted.{Fit, Fits, same-vector, sorted-has, RisingList, sorted-rising}
+use Rattle.making.proofs.Sorted.{Fit, Fits, sorted-has, RisingList, sorted-rising}
 
 -- ---- rising lists
 rising-far : (n : ℕ) (R : List Vector) → RisingList n R → (i k : ℕ) → i < k → k < length R

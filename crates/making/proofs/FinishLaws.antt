@@ -78,8 +78,12 @@ module _ (n : ℕ) (work : List ℤ) (m : ℕ) (whole : m * suc n ≤ length wor
 
   -- where there are too many, the sorted list is too long
   too-long : (flags : List Bool) → Many n (suc n) work m flags → ¬ (length (sorted n (kept flags H)) ≤ 32)
-  too-long flags t h = omega (arith, t .count, h,
-      not-longer n (t .E) R (t .picked .rising) (sorts flags .rising) stands)
+  too-long flags t h = omega (
+    arith,
+    t .count,
+    h,
+    not-longer n (t .E) R (t .picked .rising) (sorts flags .rising) stands,
+  )
     where
       R : List Vector
       R = sorted n (kept flags H)
@@ -160,11 +164,13 @@ alike : {P : Type 0} (a b : Bool) → Tells a P → Tells b P → a ≡ b
 alike true b p q = sym (passes q (p .yes refl))
 alike false b p q = sym (fails q (p .no refl))
 
-some-ext : {p r : ℕ → Bool} (k : ℕ) → ((j : ℕ) → j < k → p j ≡ r j) → some k p ≡ some k r
+-- tests that agree on each number below k agree on whether some passes
+pub some-ext : {p r : ℕ → Bool} (k : ℕ) → ((j : ℕ) → j < k → p j ≡ r j) → some k p ≡ some k r
 some-ext zero h = refl
 some-ext (suc k) h = rw (some-ext k (λ j l. h j (omega arith)), h k (omega arith))
 
-finite-point : (x : Num) → finite x ≡ isPoint x
+-- the last entry of a point is not −∞
+pub finite-point : (x : Num) → finite x ≡ isPoint x
 finite-point −∞ = refl
 finite-point (fin z) = refl
 
@@ -202,6 +208,7 @@ trues zero m h = refl
 trues (suc k) zero h = absurd (omega arith)
 trues (suc k) (suc m) h = ap (λ l. true ∷ l) (trues k m (omega arith))
 
+-- there are k of them
 pub trues-long : (k : ℕ) → k ≤ 272 → length (take k (replicate 272 true)) ≡ k
 trues-long k h = ap length (trues k 272 h) ∙ length-replicate k true
 
@@ -248,6 +255,7 @@ module _ (n : ℕ) (work : List ℤ) (k : ℕ) (area : List ℤ) (g : Finishable
       same : finished n (canonicalHeld n L) area ≡ record { made = Vectors 0; area = area }
       same = ap (λ R. finished n R area) empty ∙ none
 
+  -- with k flags on, the vectors can be cleaned
   pub cleanable : Cleanable n work (take k (replicate 272 true))
   cleanable =
       let e = trues-long k (g .few) in
@@ -260,9 +268,11 @@ module _ (n : ℕ) (work : List ℤ) (k : ℕ) (area : List ℤ) (g : Finishable
 
   -- the flags that cleaning leaves
   module _ (flags : List Bool) (is : flags ≡ cleanFlags (suc n) k (flat (suc n) work)) where
+    -- there is one for each vector
     pub flags-long : length flags ≡ k
     flags-long = ap length is ∙ flags-clean (suc n) k (flat (suc n) work) .long
 
+    -- the vectors whose flag is on can be written
     pub writable : Writable n work flags area
     writable = record {
       clocks = g .clocks;
@@ -318,6 +328,7 @@ module _ (n : ℕ) (work : List ℤ) (k : ℕ) (area : List ℤ) (g : Finishable
         let q = result p false e in
         record { made = ap (λ r. r .made) (sym q); area = ap (λ r. r .area) (sym q) }
 
+    -- within the limits, the answer and the area are those of the writing
     pub finishes-written : somePoint n L ≡ true → aliveOk n flags (flat (suc n) work) ≡ true
         → (answer : Made) (after : List ℤ) → Writes n work flags area answer after → Finishes n L area answer after
     unfolding R

@@ -1,5 +1,5 @@
 -- What the tests of the input say to the code that follows them.
-use mathlib.Core.Bool.{Bool, true, false, _&&_}
+use mathlib.Core.Bool.{Bool, _&&_}
 use mathlib.Core.List.{List}
 use mathlib.Core.Path.{_≡_, refl}
 use native.Mathlib.Omega.{arith}
@@ -23,7 +23,8 @@ pub tells-shape : (n : ℕ) (l area : List ℤ) → Tells (shapeOk n l area) (Cl
 unfolding shapeOk
 tells-shape n l area = means (λ h. (h .0, h .1 .0, h .1 .1)) (λ h. (h .0, (h .1, h .2)))
     (both (clocksOk n) (wholeOk n (length l) && leb (32 * suc n) (length area)) (tells-clocks n)
-    (both (wholeOk n (length l)) (leb (32 * suc n) (length area)) (tells-whole n l) (tells-leb (32 * suc n) (length area))))
+    (both (wholeOk n (length l)) (leb (32 * suc n) (length area)) (tells-whole n l)
+    (tells-leb (32 * suc n) (length area))))
 
 -- a refusal is passed up whatever the argument is
 pub arg-passed : (k : Checked) (arg : Bool) → tagOf the-type k ≡ 1 → k ≡ argChecked k arg

@@ -37,6 +37,7 @@ point-fits {x} f = go (seen f)
 pub ray-marked : {x : ℤ} → Marked x → true ≡ entryOk false (number x)
 ray-marked m = rw (m .is)
 
+-- one that is not the mark is looked at
 pub ray-finite : {x : ℤ} → Finite x → leZ (negsuc 999999) x ≡ entryOk false (number x)
 ray-finite p = rw (p .is)
 
@@ -48,6 +49,7 @@ point-last {x} f = go (eqb (ofZ w32 x) 2147483648) refl
     go true e = rw (is-mark f (eqb→eq (ofZ w32 x) 2147483648 (rw e tt)) .is)
     go false e = rw (not-mark f (eqb-false (ofZ w32 x) 2147483648 e) .is)
 
+-- the test of an entry, on the bits of the entry and of the last word
 pub entry-test : (last x : ℤ) → mag last < 2147483648 → mag x < 2147483648
     → entryOk (not (eqb (ofZ w32 last) 2147483648)) (number (toZ w32 (ofZ w32 x)))
     ≡ entryOk (isPoint (number last)) (number x)
@@ -76,8 +78,10 @@ row-test n work i = ap (λ (v : List ℤ). rowOk n (entries v)) (part-is work (i
 
 -- a vector is within the limits if its flag is off, or if it passes
 module _ (b r : Bool) where
+  -- off: it is not looked at
   pub off-passes : b ≡ false → cond b r true ≡ true
   off-passes e = rw e
 
+  -- on: its test decides
   pub on-is : b ≡ true → cond b r true ≡ r
   on-is e = rw e

@@ -22,9 +22,9 @@ use Rattle.sets.specs.declared.Checked.{Checked}
 use Rattle.sets.specs.declared.Checked.the-variants.{Good, Refused as CheckedRefused}
 use Rattle.sets.specs.Limits.{Clocks, Whole, ListLimits}
 use Rattle.sets.specs.Demands.{MetBelow, Refuses, Input, Good as GoodInput}
-use Rattle.sets.specs.Tests.{tight, wordsOk, clocksOk, wholeOk, listOk}
+use Rattle.sets.specs.Tests.{tight, wordsOk, wholeOk, listOk}
 use Rattle.sets.specs.Rules.{checked}
-use Rattle.sets.proofs.TestLaws.{tells-clocks, tells-whole, tells-words, tells-list}
+use Rattle.sets.proofs.TestLaws.{tells-whole, tells-words, tells-list}
 use Rattle.sets.proofs.Membership.{kinds}
 use Rattle.making.specs.declared.Made.the-variants.{Vectors, Refused}
 use Rattle.making.specs.Limits.{Roomy, HalfLimits, ResetLimits, InRange}
@@ -35,6 +35,7 @@ use Rattle.making.specs.Clean.{canonicalOf}
 use Rattle.making.specs.Rules.{Result, refusedBy, entryOk, rangeOk, finished, makeAfter, shapeOk}
 use Rattle.making.specs.Rules.{intersectChecked, intersectOf, delayChecked, delayOf, argChecked}
 use Rattle.making.specs.Rules.{resetChecked, resetOf, hullChecked, hullOf}
+use Rattle.making.proofs.InputLaws.{tells-shape}
 use Rattle.making.proofs.Existence.{canonical-made}
 use Rattle.making.proofs.WorkingLists.{vectors-long}
 use Rattle.making.proofs.Exact.{intersect-made, delay-made, reset-made, hull-made}
@@ -196,14 +197,6 @@ makes-by c n wanted area k L f exact = record {
     by Good g = unfold Allowed in finished-allowed c n R g (canonical-made n L .kind) area
     by (CheckedRefused e) w = record { why = w R; area = refl }
 
--- the shape of a list and an area
-tells-shape : (n : ℕ) (l area : List ℤ) → Tells (shapeOk n l area) (Clocks n × Whole n l × Roomy n area)
-unfolding shapeOk
-tells-shape n l area = means (λ h. (h .0, h .1 .0, h .1 .1)) (λ h. (h .0, (h .1, h .2)))
-    (both (clocksOk n) (wholeOk n (length l) && leb (32 * suc n) (length area)) (tells-clocks n)
-    (both (wholeOk n (length l)) (leb (32 * suc n) (length area)) (tells-whole n l)
-    (tells-leb (32 * suc n) (length area))))
-
 -- ---- the four calls: what the checks of each find, and that its rule meets its contract
 -- intersect
 pub intersect-found : (n : ℕ) (l h area : List ℤ) → Found (intersectInput n l h area) n (intersectChecked n l h area)
@@ -219,6 +212,7 @@ intersect-found n l h area = found-plain (intersectInput n l h area) n (shapeOk 
     limits : Tells (listOk n l && wordsOk true (2 * suc n) h) (ListLimits n l × HalfLimits n h)
     limits = both (listOk n l) (wordsOk true (2 * suc n) h) (tells-list n l) (tells-words true (2 * suc n) h)
 
+-- the rule's answer and area are what intersect's contract allows
 pub intersect-meets : (n : ℕ) (l h area : List ℤ)
     → Intersects n l h area (intersectOf n l h area .made) (intersectOf n l h area .area)
 unfolding intersectOf
@@ -233,6 +227,7 @@ unfolding delayChecked
 delay-found n l area =
     found-plain (delayInput n l area) n (shapeOk n l area) (listOk n l) (tells-shape n l area) (tells-list n l) tt
 
+-- the rule's answer and area are what delay's contract allows
 pub delay-meets : (n : ℕ) (l area : List ℤ) → Delays n l area (delayOf n l area .made) (delayOf n l area .area)
 unfolding delayOf
 delay-meets n l area = makes-by (delayInput n l area) n (Delayed (setOf n l)) area (delayChecked n l area)
@@ -254,6 +249,7 @@ reset-found n l i c area =
         (both (atMost nought (number c)) (atMost (number c) million) (tells-atMost nought (number c))
         (tells-atMost (number c) million)))
 
+-- the rule's answer and area are what reset's contract allows
 pub reset-meets : (n : ℕ) (l : List ℤ) (i : ℕ) (c : ℤ) (area : List ℤ)
     → Resets n l i c area (resetOf n l i c area .made) (resetOf n l i c area .area)
 unfolding resetOf
@@ -272,6 +268,7 @@ hull-found n l m area =
     shape = means (λ h. (h .0 .0, h .0 .1, h .1, h .0 .2)) (λ h. ((h .0, h .1, h .3), h .2))
         (both (shapeOk n l area) (wholeOk n (length m)) (tells-shape n l area) (tells-whole n m))
 
+-- the rule's answer and area are what hull's contract allows
 pub hull-meets : (n : ℕ) (l m area : List ℤ) → Hulls n l m area (hullOf n l m area .made) (hullOf n l m area .area)
 unfolding hullOf
 hull-meets n l m area = makes-by (hullInput n l m area) n (Hull n (setOf n l) (setOf n m)) area

@@ -7,8 +7,7 @@ use Prim.Native.Nat.{ℕ, zero, suc, _+_, _≤_, _<_}
 use native.Mathlib.Omega.{arith}
 use native.Mathlib.Decide.{ℕ-discrete}
 use lib.ListN.{length}
-use lib.Seq.{ext-getD}
-use Rattle.numbers.specs.Numbers.{Num, −∞, _≼_, atMost}
+use Rattle.numbers.specs.Numbers.{Num, _≼_, atMost}
 use Rattle.numbers.proofs.Tells.{Tells, always, never, means, both}
 use Rattle.numbers.proofs.NumberLaws.{≼-antisym, ≼-of-eq, tells-atMost, dec-≼, fin-low, Num-discrete}
 use Rattle.algebra.specs.Vectors.{Vector, entry, vector, IsPoint, IsRay}
@@ -17,6 +16,7 @@ use Rattle.algebra.proofs.Entries.{Same, places}
 use Rattle.algebra.proofs.Canon.{Earlier, by-kind, by-clock, strict}
 use Rattle.algebra.proofs.CanonicalLists.{before}
 use Rattle.making.specs.Clean.{lowerFrom, earlier, insert, sorted}
+use Rattle.sorting.proofs.Order.{same-vector}
 use Rattle.making.proofs.Members.{Has, has-none, has-cons, has-head, has-tail, has-at}
 
 -- ---- the test of the order
@@ -129,11 +129,6 @@ tells-earlier n v w k l = go k l
 pub record Fit (n : ℕ) (v : Vector) : Type 0 where
   pub long : length v ≡ suc n
   pub kind : IsPoint n v ⊎ IsRay n v
-
--- vectors of n + 1 entries that agree at each are equal
-pub same-vector : (n : ℕ) (v w : Vector) → length v ≡ suc n → length w ≡ suc n
-    → Same (suc n) (entry v) (entry w) → v ≡ w
-same-vector n v w p q e = ext-getD −∞ v w (p ∙ sym q) (λ j l. e j (subst (λ m. j < m) p l))
 
 -- the order of entries is that of the vectors
 pub after : (n : ℕ) (v w : Vector) → Earlier n (entry v) (entry w) → Before n v w

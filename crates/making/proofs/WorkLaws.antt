@@ -1,28 +1,25 @@
 -- Vectors put into working memory: what the shift is, and what the memory holds afterwards.
-use mathlib.Core.Bool.{Bool, true, false}
-use mathlib.Core.List.{List, [], _∷_, _++_, map}
+use mathlib.Core.List.{List}
 use mathlib.Core.Logic.{_≢_}
 use mathlib.Core.Path.{_≡_, refl, sym, _∙_, ap, subst}
-use Prim.Native.Nat.{ℕ, zero, suc, _+_, _-_, _*_, _≤_, _<_}
-use native.Mathlib.Numerals.{add-one}
+use Prim.Native.Nat.{ℕ, zero, suc, _+_, _≤_, _<_}
 use native.Mathlib.Omega.{arith}
 use borrow.Author.Count.{below-more}
 use borrow.Author.Tests.{ne-eqb}
-use lib.IntN.{ℤ, pos, negsuc, negℤ, _+ℤ_, _-ℤ_, +ℤ-idl}
-use lib.ListN.{length, getD, set, take, drop, replicate, length-set, getD-replicate}
+use lib.IntN.{ℤ, pos, negsuc, negℤ, _-ℤ_, +ℤ-idl}
+use lib.ListN.{length, getD, set, take, replicate, length-set, getD-replicate}
 use lib.Seq.{getD-set-same, getD-set-other, getD-take, length-take-le}
 use lib.Signed.{mag}
 use mir.Syntax.{w32}
 use mir.Val.{SFits, toZ, ofZ}
 use mir.Facts.{toZ-ofZ}
 use Rattle.numbers.specs.Integers.{hi, lo}
-use Rattle.numbers.specs.Numbers.{Num, −∞, fin, _⊕_, _⊗_, _▷_, ⨁, Within, nought}
-use Rattle.numbers.specs.Words.{mark, isMark, number}
-use Rattle.numbers.specs.Places.{Vec, entries, Each, sideOf}
-use Rattle.numbers.proofs.IntegerLaws.{neg, same, sum}
-use Rattle.numbers.proofs.NumberLaws.{▷-zero, ⊕-low, ⨁-ext, wider, ⨁-within}
+use Rattle.numbers.specs.Numbers.{−∞, fin, _⊗_, _▷_, ⨁, Within, nought}
+use Rattle.numbers.specs.Words.{number}
+use Rattle.numbers.specs.Places.{entries, Each, sideOf}
+use Rattle.numbers.proofs.IntegerLaws.{neg}
+use Rattle.numbers.proofs.NumberLaws.{▷-zero, ⊕-low, ⨁-ext, ⨁-within}
 use Rattle.numbers.proofs.WordLaws.{Marked, Finite, back}
-use Rattle.algebra.specs.Working.{shiftBy}
 use Rattle.making.specs.Work.{shiftOf, Shifted}
 
 -- a word within limits is not the mark
@@ -51,6 +48,7 @@ module _ (n : ℕ) (v : List ℤ) where
   pub shift-none : entries v n ≡ −∞ → ⨁ n (entries v) ≡ −∞ → pos 0 ≡ shiftOf n v
   shift-none e q = rw (e, q)
 
+  -- the largest entry is an integer, and the shift brings it to 0
   pub shift-ray : (z : ℤ) → entries v n ≡ −∞ → ⨁ n (entries v) ≡ fin z → pos 0 -ℤ z ≡ shiftOf n v
   shift-ray z e q = +ℤ-idl (negℤ z) ∙ rw (e, q)
 
@@ -64,7 +62,8 @@ module _ (n : ℕ) (v : List ℤ) where
       ⊗-low′ = unfold number in rw (zero-at n (omega arith))
         where
           zero-at : (j : ℕ) → j < n + 1 → getD (take (n + 1) (replicate 7 (pos 0))) j (pos 0) ≡ pos 0
-          zero-at j l = getD-take (n + 1) (replicate 7 (pos 0)) j (pos 0) l ∙ getD-replicate 7 j (pos 0) (pos 0) (omega arith)
+          zero-at j l = getD-take (n + 1) (replicate 7 (pos 0)) j (pos 0) l
+              ∙ getD-replicate 7 j (pos 0) (pos 0) (omega arith)
 
       each : (j : ℕ) → j < n → entries (take (n + 1) (replicate 7 (pos 0))) j ⊗ entries v j ≡ entries v j
       each j l = ap (λ x. x ⊗ entries v j) zero ∙ ▷-zero (entries v j)
@@ -74,15 +73,18 @@ module _ (n : ℕ) (v : List ℤ) where
               ∙ getD-replicate 7 j (pos 0) (pos 0) (omega arith))
 
 -- ---- shifting word by word: the places before j are done
+-- the first j words of `after` are those of v, shifted by c
 pub record Shifting (v : List ℤ) (c : ℤ) (after : List ℤ) (j : ℕ) : Type 0 where
   pub inside : j ≤ length v
   pub long : length after ≡ length v
   pub done : (k : ℕ) → k < j → entries after k ≡ c ▷ entries v k
 
 module _ (v : List ℤ) (c : ℤ) where
+  -- at first no word is shifted
   pub shifting-start : (out : List ℤ) → length out ≡ length v → Shifting v c out 0
   shifting-start out e = record { inside = omega arith; long = e; done = λ k l. absurd (omega arith) }
 
+  -- with word j shifted there is one more
   pub shifting-next : (out : List ℤ) (j : ℕ) (x : ℤ) → Shifting v c out j → j < length v → number x ≡ c ▷ entries v j
       → Shifting v c (set out j x) (j + 1)
   shifting-next out j x m l e = record {
@@ -93,32 +95,42 @@ module _ (v : List ℤ) (c : ℤ) where
         (rw (getD-set-same out j x (pos 0) (omega (arith, m .long))) e);
   }
 
+  -- when all words are, the vector is shifted
   pub shifting-done : (out : List ℤ) (j : ℕ) → Shifting v c out j → length v ≤ j → Shifted v c out
   shifting-done out j m l = record { long = m .long; right = λ k b. m .done k (omega arith) }
 
 -- ---- seven zeros, of which as many are lent as a vector has words
+-- as many zeros as words
 pub zeros-long : (w : ℕ) → w ≤ 7 → length (take w (replicate 7 (pos 0))) ≡ w
 zeros-long w h = length-take-le w (replicate 7 (pos 0)) h
 
+-- they are within limits
 pub zeros-each : (w : ℕ) → w ≤ 7 → Each 1000000000 (take w (replicate 7 (pos 0)))
 zeros-each w h = record { each = λ j l. at j (subst (λ (k : ℕ). j < k) (zeros-long w h) l) }
   where
     at : (j : ℕ) → j < w → Within 1000000000 (entries (take w (replicate 7 (pos 0))) j)
-    at j l = unfold number in rw (getD-take w (replicate 7 (pos 0)) j (pos 0) l,
-        getD-replicate 7 j (pos 0) (pos 0) (omega arith)) (record { near = omega arith })
+    at j l = unfold number in rw (
+      getD-take w (replicate 7 (pos 0)) j (pos 0) l,
+      getD-replicate 7 j (pos 0) (pos 0) (omega arith),
+    ) (record { near = omega arith })
 
 -- what the largest entry's word says
 pub most-none : (n : ℕ) (v : List ℤ) (m : ℤ) → Marked m → number m ≡ ⨁ n (entries v) → ⨁ n (entries v) ≡ −∞
 most-none n v m k e = sym e ∙ k .is
 
+-- it is not the mark: the largest entry is its number
 pub most-some : (n : ℕ) (v : List ℤ) (m : ℤ) → Finite m → number m ≡ ⨁ n (entries v) → ⨁ n (entries v) ≡ fin m
 most-some n v m f e = sym e ∙ f .is
 
-pub most-near : (n : ℕ) (v : List ℤ) (m : ℤ) → length v ≡ suc n → Each 10000000 v → Finite m → number m ≡ ⨁ n (entries v)
+-- and then within the limits of the entries
+pub most-near : (n : ℕ) (v : List ℤ) (m : ℤ) → length v ≡ suc n → Each 10000000 v → Finite m
+    → number m ≡ ⨁ n (entries v)
     → Within 10000000 (fin m)
-most-near n v m e h f q = subst (λ x. Within 10000000 x) (most-some n v m f q) (⨁-within n (entries v) (λ j l. h .each j (omega arith)))
+most-near n v m e h f q =
+    subst (λ x. Within 10000000 x) (most-some n v m f q) (⨁-within n (entries v) (λ j l. h .each j (omega arith)))
 
 -- a negation as the code holds it
 pub negated-back : (z : ℤ) → mag z < 2147483648 → SFits w32 (pos 0 -ℤ z)
     → toZ w32 (ofZ w32 (pos 0 -ℤ toZ w32 (ofZ w32 z))) ≡ pos 0 -ℤ z
-negated-back z h f = ap (λ (x : ℤ). toZ w32 (ofZ w32 (pos 0 -ℤ x))) (back {z = z} h) ∙ toZ-ofZ {w = w32} {z = pos 0 -ℤ z} f
+negated-back z h f = ap (λ (x : ℤ). toZ w32 (ofZ w32 (pos 0 -ℤ x))) (back {z = z} h)
+    ∙ toZ-ofZ {w = w32} {z = pos 0 -ℤ z} f

@@ -19,6 +19,7 @@ pub data Given : Type 0 where
   filled : ℕ → Given
   refused : ℕ → Given
 
+-- an answer of the code in those words
 abbrev pub givenBy : Made → Given
 givenBy (Vectors k) = filled k
 givenBy (Refused e) = refused (refusalNumber e)
@@ -38,6 +39,7 @@ pub record Untouched (demand : Demands) (before : List ℤ) (k : ℕ) (after : L
   pub why : Refuses demand k
   pub area : after ≡ before
 
+-- the answer and the area afterwards are right for the result R
 abbrev pub Outcome : Demands → List Vector → List ℤ → Given → List ℤ → Type 0
 Outcome demand R before (filled k) after = Filled demand R before k after
 Outcome demand R before (refused k) after = Untouched demand before k after

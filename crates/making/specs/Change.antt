@@ -1,19 +1,18 @@
 -- What becomes of each vector of a list before it is put into working memory.
 use mathlib.Core.List.{List, map}
-use mathlib.Core.Logic.{_⊎_}
 use mathlib.Core.Path.{_≡_}
-use Prim.Native.Nat.{ℕ, suc, _+_, _*_, _≤_, _<_}
+use Prim.Native.Nat.{ℕ, suc, _+_, _*_, _≤_}
 use lib.IntN.{ℤ}
 use lib.ListN.{length, take}
-use Rattle.numbers.specs.Numbers.{−∞, nought}
 use Rattle.numbers.specs.Words.{number}
-use Rattle.numbers.specs.Places.{entries, Each}
-use Rattle.algebra.specs.Vectors.{Vector, vectors, count}
+use Rattle.numbers.specs.Places.{Each}
+use Rattle.algebra.specs.Vectors.{Vector, count}
 use Rattle.algebra.specs.Working.{toRay, resetVector}
 use Rattle.making.specs.declared.build.Change.{Change}
 use Rattle.making.specs.declared.build.Change.the-variants.{Stay, Ray, Replace}
 use Rattle.making.specs.Limits.{ResetLimits}
 
+-- the vector after the change, of n clocks
 abbrev pub changedBy : Change → ℕ → Vector → Vector
 changedBy Stay n v = v
 changedBy Ray n v = toRay n v

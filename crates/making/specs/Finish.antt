@@ -41,6 +41,7 @@ pub record Finishes (n : ℕ) (H : List Vector) (before : List ℤ) (answer : Ma
   pub area : after ≡ finished n (canonicalHeld n H) before .area
 
 -- ---- the limits of a result, looked at where its vectors stand
+-- each clock of a vector is within the limits, as its last entry says: of a point or of a ray
 unfoldable pub rowOk : ℕ → Vec → Bool
 rowOk n X = every n (λ j. entryOk (isPoint (X n)) (X j))
 
@@ -49,6 +50,7 @@ unfoldable pub aliveOk : ℕ → List Bool → (ℕ → Vec) → Bool
 aliveOk n alive G = every (length alive) (λ i. cond (getD alive i false) (rowOk n (G i)) true)
 
 -- ---- writing the vectors that are on
+-- at most 272 vectors of n + 1 words, each with a flag, points and rays, and a result area
 pub record Writable (n : ℕ) (work : List ℤ) (alive : List Bool) (area : List ℤ) : Type 0 where
   pub clocks : n ≤ 6
   pub few : length alive ≤ 272
@@ -61,11 +63,12 @@ abbrev pub sortedAlive : ℕ → List ℤ → List Bool → List Vector
 sortedAlive n work alive = sorted n (kept alive (held (suc n) (length alive) work))
 
 -- the answer and the area tell of them
-pub record Writes (n : ℕ) (work : List ℤ) (alive : List Bool) (before : List ℤ) (answer : Made) (after : List ℤ) : Type 0 where
+pub record Writes (n : ℕ) (work : List ℤ) (alive : List Bool) (before : List ℤ)
+    (answer : Made) (after : List ℤ) : Type 0 where
   pub made : answer ≡ written (sortedAlive n work alive) before .made
   pub area : after ≡ written (sortedAlive n work alive) before .area
 
--- ---- a list within limits of at most 32 vectors, a half-space within limits, and room for 272 vectors
+-- a list within limits of at most 32 vectors, a half-space within limits, and room for 272 vectors
 pub record Cuttable (n : ℕ) (list half work : List ℤ) : Type 0 where
   pub clocks : n ≤ 6
   pub few : count n list ≤ 32

@@ -8,7 +8,7 @@ use lib.ListN.{length, drop}
 use Rattle.numbers.specs.Numbers.{Num, −∞, fin, atMost, million, minusMillion}
 use Rattle.numbers.specs.Words.{number}
 use Rattle.numbers.specs.Tests.{every}
-use Rattle.numbers.specs.declared.Refusal.the-variants.{Shape, Entry, Arg, Range, Gens}
+use Rattle.numbers.specs.declared.Refusal.the-variants.{Arg, Range, Gens}
 use Rattle.algebra.specs.Vectors.{Vector, entry, vector, vectors, words}
 use Rattle.algebra.specs.Wanted.{left, right}
 use Rattle.algebra.specs.Working.{isPoint, intersectList, delayList, resetList, hullList}
@@ -27,14 +27,17 @@ entryOk true x = atMost x million
 entryOk false −∞ = true
 entryOk false (fin z) = atMost minusMillion (fin z)
 
+-- each entry of each vector is within the limits of a result
 unfoldable pub rangeOk : ℕ → List Vector → Bool
 rangeOk n R = every (length R) (λ i. every n (λ j. entryOk (isPoint (entry (vector R i) n)) (entry (vector R i) j)))
 
 -- ---- the answer and the area
+-- what a call answers, and its area afterwards
 pub record Result : Type 0 where
   pub made : Made
   pub area : List ℤ
 
+-- the answer with the area as it was
 abbrev pub refusedBy : Made → List ℤ → Result
 refusedBy answer area = record { made = answer; area = area }
 
@@ -45,6 +48,7 @@ written R area =
     (record { made = Vectors (length R); area = words R ++ drop (length (words R)) area })
     (refusedBy (Refused Gens) area)
 
+-- the list R in the area, or RANGE, or GENS
 unfoldable pub finished : ℕ → List Vector → List ℤ → Result
 finished n R area = cond (rangeOk n R) (written R area) (refusedBy (Refused Range) area)
 
@@ -58,37 +62,46 @@ unfoldable pub shapeOk : ℕ → List ℤ → List ℤ → Bool
 shapeOk n l area = clocksOk n && (wholeOk n (length l) && leb (32 * suc n) (length area))
 
 -- ---- intersect
+-- its checks, in order
 unfoldable pub intersectChecked : ℕ → List ℤ → List ℤ → List ℤ → Checked
 intersectChecked n l h area =
     checked (shapeOk n l area && eqb (length h) (2 * suc n)) (listOk n l && wordsOk true (2 * suc n) h)
 
+-- its answer and the area
 unfoldable pub intersectOf : ℕ → List ℤ → List ℤ → List ℤ → Result
 intersectOf n l h area =
     makeAfter (intersectChecked n l h area) n (intersectList n (left n h) (right n h) (vectors n l)) area
 
 -- ---- delay
+-- its checks, in order
 unfoldable pub delayChecked : ℕ → List ℤ → List ℤ → Checked
 delayChecked n l area = checked (shapeOk n l area) (listOk n l)
 
+-- its answer and the area
 unfoldable pub delayOf : ℕ → List ℤ → List ℤ → Result
 delayOf n l area = makeAfter (delayChecked n l area) n (delayList n (vectors n l)) area
 
 -- ---- reset
+-- ARG is asked last
 abbrev pub argChecked : Checked → Bool → Checked
 argChecked (CheckedRefused e) arg = CheckedRefused e
 argChecked Good true = Good
 argChecked Good false = CheckedRefused Arg
 
+-- its checks, in order
 unfoldable pub resetChecked : ℕ → List ℤ → ℕ → ℤ → List ℤ → Checked
 resetChecked n l i c area = argChecked (delayChecked n l area) (ltb i n && tight (number c))
 
+-- its answer and the area
 unfoldable pub resetOf : ℕ → List ℤ → ℕ → ℤ → List ℤ → Result
 resetOf n l i c area = makeAfter (resetChecked n l i c area) n (resetList n i c (vectors n l)) area
 
 -- ---- hull
+-- its checks, in order
 unfoldable pub hullChecked : ℕ → List ℤ → List ℤ → List ℤ → Checked
 hullChecked n l m area =
     checked (shapeOk n l area && wholeOk n (length m)) (listOk n l && listOk n m)
 
+-- its answer and the area
 unfoldable pub hullOf : ℕ → List ℤ → List ℤ → List ℤ → Result
 hullOf n l m area = makeAfter (hullChecked n l m area) n (hullList n (vectors n l) (vectors n m)) area

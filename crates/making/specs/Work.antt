@@ -69,10 +69,11 @@ upTo (suc m) f = upTo m f ++ f m
 unfoldable pub mixedOf : ℕ → Num → Vector → Num → Vector → Vector
 mixedOf n l g r h = tab (suc n) (λ j. (l ⊗ entry g j) ⊕ (r ⊗ entry h j))
 
--- what vector i gives with vector j, if that violates
+-- the side at vector i, of the words of a side
 abbrev pub sideWord : List ℤ → ℕ → Num
 sideWord sides i = number (getD sides i (pos 0))
 
+-- what vector i gives with vector j, if that violates
 unfoldable pub crossAt : ℕ → List ℤ → List ℤ → List Vector → ℕ → ℕ → List Vector
 crossAt n ls rs L i j =
     cond (atMost (sideWord ls j) (sideWord rs j)) []
@@ -87,6 +88,7 @@ unfoldable pub crossesAt : ℕ → List ℤ → List ℤ → List Vector → ℕ
 crossesAt n ls rs L i =
     cond (atMost (sideWord ls i) (sideWord rs i)) (vector L i ∷ crossingsAt n ls rs L i) []
 
+-- what all vectors give that satisfy
 unfoldable pub crossedList : ℕ → List ℤ → List ℤ → List Vector → List Vector
 crossedList n ls rs L = upTo (length L) (crossesAt n ls rs L)
 

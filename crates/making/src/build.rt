@@ -1,5 +1,4 @@
 // The vectors that stand before cleaning, for each call.
-ghost use mathlib.Core.Path.{_≡_};
 ghost use mathlib.Core.List.{[], _∷_, map};
 ghost use Rattle.numbers.specs.Words.{number};
 ghost use Rattle.algebra.specs.Vectors.{vectors};
@@ -8,7 +7,8 @@ ghost use Rattle.algebra.specs.Working.{withPoint};
 ghost use Rattle.making.specs.Work.{Added, Grown};
 ghost use Rattle.making.specs.declared.build.Change.the-variants.{Stay};
 use crate::work;
-use numbers::{Vector, product};
+use numbers::Vector;
+use numbers::product;
 use sets::entries;
 
 // What becomes of each vector of a list: it stays, it becomes a ray, or its clock is replaced.
@@ -38,7 +38,8 @@ fn changed(vector: &[i32], n: usize, change: Change) -> Vector
 // One vector, changed, put behind the first k.
 fn one(work: &mut [i32], k: usize, vector: &[i32], n: usize, change: Change)
     requires { ⌜ Changeable n change (now vector) × RoomFor n (now work) k ⌝ }
-    ensures { λ _. ⌜ Added n (now (work .entry)) k (changedBy change n (map number (now (vector .entry))) ∷ []) (now (work .exit)) ⌝ }
+    ensures { λ _. ⌜ Added n (now (work .entry)) k (changedBy change n (map number (now (vector .entry))) ∷ [])
+        (now (work .exit)) ⌝ }
 {
     let made = changed(vector, n, change);
     let words = made.words;
@@ -48,7 +49,8 @@ fn one(work: &mut [i32], k: usize, vector: &[i32], n: usize, change: Change)
 // Each vector of the list, changed, put behind the first k.
 pub fn each(work: &mut [i32], k: usize, list: &[i32], n: usize, change: Change)
     requires { ⌜ Growable n change (now list) (now work) k ⌝ }
-    ensures { λ _. ⌜ Added n (now (work .entry)) k (map (changedBy change n) (vectors n (now (list .entry)))) (now (work .exit)) ⌝ }
+    ensures { λ _. ⌜ Added n (now (work .entry)) k (map (changedBy change n) (vectors n (now (list .entry))))
+        (now (work .exit)) ⌝ }
 {
     let w = n + 1;
     let m = list.len() / w;
@@ -63,7 +65,8 @@ pub fn each(work: &mut [i32], k: usize, list: &[i32], n: usize, change: Change)
 // The vectors of the list, if it has a point, put behind the first k.
 pub fn pointed(work: &mut [i32], k: usize, list: &[i32], n: usize) -> usize
     requires { ⌜ Growable n Stay (now list) (now work) k ⌝ }
-    ensures { λ r. ⌜ Grown n (now (work .entry)) k (withPoint n (vectors n (now (list .entry)))) r (now (work .exit)) ⌝ }
+    ensures { λ r. ⌜ Grown n (now (work .entry)) k (withPoint n (vectors n (now (list .entry)))) r
+        (now (work .exit)) ⌝ }
 {
     if !entries::has_point(n, list) {
         return k;

@@ -1,7 +1,5 @@
 // The result of a call: the vectors of working memory cleaned, looked at, sorted, and written once.
-ghost use mathlib.Core.Path.{_≡_};
-ghost use Prim.Native.Nat.{suc, _*_, _≤_, _<_};
-ghost use lib.ListN.{length};
+ghost use Prim.Native.Nat.{suc, _*_};
 ghost use Rattle.sorting.specs.Rows.{held};
 ghost use Rattle.making.specs.Finish.{Finishable, Finishes, Writable, Writes};
 use crate::Made;

@@ -1,10 +1,10 @@
 // Whether the input of a making call is good: SHAPE before ENTRY before ARG.
 ghost use mathlib.Core.Path.{_≡_};
-ghost use Prim.Native.Nat.{_≤_};
 ghost use Rattle.making.specs.Rules.{shapeOk, intersectChecked, delayChecked, resetChecked, hullChecked};
 use numbers::Refusal;
 use sets::Checked;
-use sets::{entries, input};
+use sets::entries;
+use sets::input;
 
 // The shape of a list and of a result area.
 fn shape(n: usize, list: &[i32], area: &[i32]) -> bool

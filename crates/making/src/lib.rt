@@ -6,13 +6,13 @@ use numbers::Refusal;
 use sets::Checked;
 use sets::input::why;
 
-pub mod input; // input.rt: whether the input of a call is good
-pub mod work; // work.rt: vectors put into working memory
-pub mod build; // build.rt: the vectors that stand before cleaning
-pub mod half; // half.rt: the vectors that a half-space makes
-pub mod clean; // clean.rt: vectors that others generate are dropped
-pub mod range; // range.rt: the limits of a result
-pub mod finish; // finish.rt: the result written to the lent area
+mod input; // input.rt: whether the input of a call is good
+mod work; // work.rt: vectors put into working memory
+mod build; // build.rt: the vectors that stand before cleaning
+mod half; // half.rt: the vectors that a half-space makes
+mod clean; // clean.rt: vectors that others generate are dropped
+mod range; // range.rt: the limits of a result
+mod finish; // finish.rt: the result written to the lent area
 
 // The answer of a call that makes a set: how many vectors stand in the area.
 pub enum Made {

@@ -5,7 +5,9 @@ ghost use lib.ListN.{length};
 ghost use Rattle.numbers.specs.Numbers.{fin, Within};
 ghost use Rattle.numbers.specs.Places.{Each};
 ghost use Rattle.making.specs.Work.{shiftOf, Shifted, Pushable, Pushed};
-use numbers::{Vector, product, side};
+use numbers::Vector;
+use numbers::product;
+use numbers::side;
 
 // The shift that brings a point's last entry, or a ray's largest, to 0.
 fn shift(vector: &[i32], n: usize) -> i32
@@ -26,7 +28,8 @@ fn shift(vector: &[i32], n: usize) -> i32
 
 // The words of the vector, shifted by `by`.
 fn place(out: &mut [i32], vector: &[i32], by: i32)
-    requires { ⌜ (length (now out) ≡ length (now vector)) × Each 1000000000 (now vector) × Within 1000000000 (fin by) ⌝ }
+    requires { ⌜ (length (now out) ≡ length (now vector)) × Each 1000000000 (now vector)
+        × Within 1000000000 (fin by) ⌝ }
     ensures { λ _. ⌜ Shifted (now (vector .entry)) by (now (out .exit)) ⌝ }
 {
     let mut j = 0;

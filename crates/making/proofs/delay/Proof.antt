@@ -116,6 +116,7 @@ returns-2 c =
     delay-ends (s .n) (s .list .now) (s .out .now) .made _ (b .before .before .delay .ensures) (b .enum-told .given .1)
     (replicate 1904 (pos 0)) _ _ (grown e) _ _ (c .before .finish .ensures)
 
+-- `delay` meets its contract
 pub delay-spec : {M : Type 1} → statement M
 delay-spec =
     tie.close

@@ -66,8 +66,12 @@ pointed-requires-2 c κs =
     let p = e .pointed .ensures in
     growable Stay (s .n) (s .second .now) _ (e .pointed .result) (g .0 .0 .few) (list-each _ _ (g .0 .2) (g .1 .1)) tt
     (p .added .long ∙ length-replicate 1904 (pos 0))
-    (omega (arith, p .count, with-few (s .n) (vectors (s .n) (s .first .now)) (few-vectors _ _ (g .0 .1 .few)),
-    g .0 .2 .few))
+    (omega (
+      arith,
+      p .count,
+      with-few (s .n) (vectors (s .n) (s .first .now)) (few-vectors _ _ (g .0 .1 .few)),
+      g .0 .2 .few,
+    ))
 
 -- what stands in working memory
 grown : (c : tie.After-pointed2) →
@@ -87,8 +91,11 @@ finish-requires c κs =
     let s = b .before .before .before .before .args in
     let g = good b in
     finishable _ _ _ _ _ (grown e) _ (length-replicate 1904 (pos 0)) (zeros-near 1904) (g .0 .0 .few)
-    (omega (arith, hull-few (s .n) (vectors (s .n) (s .first .now)) (vectors (s .n) (s .second .now))
-    (few-vectors _ _ (g .0 .1 .few)) (few-vectors _ _ (g .0 .2 .few)))) (g .0 .3)
+    (omega (
+      arith,
+      hull-few (s .n) (vectors (s .n) (s .first .now)) (vectors (s .n) (s .second .now))
+          (few-vectors _ _ (g .0 .1 .few)) (few-vectors _ _ (g .0 .2 .few)),
+    )) (g .0 .3)
 
 same-length-2 : tie.Need-same-length-2
 same-length-2 c = search needs
@@ -101,6 +108,7 @@ returns-2 c =
     hull-ends (s .n) (s .first .now) (s .second .now) (s .out .now) .made _ (b .before .before .hull .ensures)
     (b .enum-told .given .1) (replicate 1904 (pos 0)) _ _ (grown e) _ _ (c .before .finish .ensures)
 
+-- `hull` meets its contract
 pub hull-spec : {M : Type 1} → statement M
 hull-spec =
     tie.close

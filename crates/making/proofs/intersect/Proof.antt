@@ -82,6 +82,7 @@ returns-2 c =
     intersect-ends (s .n) (s .list .now) (s .half .now) (s .out .now) .made _ (b .before .before .intersect .ensures)
     (b .enum-told .given .1) (replicate 1904 (pos 0)) _ _ (e .cut .ensures) _ _ (c .before .finish .ensures)
 
+-- `intersect` meets its contract
 pub intersect-spec : {M : Type 1} → statement M
 intersect-spec =
     tie.close

@@ -95,8 +95,10 @@ finish-requires c κs =
     let s = b .before .before .before .before .args in
     let g = good b in
     finishable _ _ _ _ _ (grown e) _ (length-replicate 1904 (pos 0)) (zeros-near 1904) (g .0 .0 .few)
-    (omega (arith,
-    reset-few (s .n) (vectors (s .n) (s .list .now)) (few-vectors _ _ (g .0 .1 .few)) (s .clock) (s .value)))
+    (omega (
+      arith,
+      reset-few (s .n) (vectors (s .n) (s .list .now)) (few-vectors _ _ (g .0 .1 .few)) (s .clock) (s .value),
+    ))
     (g .0 .2)
 
 same-length-2 : tie.Need-same-length-2
@@ -110,6 +112,7 @@ returns-2 c =
     reset-ends (s .n) (s .list .now) (s .clock) (s .value) (s .out .now) .made _ (checked (b .before .before))
     (b .enum-told .given .1) (replicate 1904 (pos 0)) _ _ (grown e) _ _ (c .before .finish .ensures)
 
+-- `reset` meets its contract
 pub reset-spec : {M : Type 1} → statement M
 reset-spec =
     tie.close

@@ -1,4 +1,4 @@
-use mathlib.Core.Path.{_≡_, sym, _∙_, ap, subst}
+use mathlib.Core.Path.{sym, _∙_, subst}
 use mathlib.Core.List.{map}
 use Prim.Native.Nat.{ℕ, _+_, _*_, _/_, _≤_, _<_, _-_}
 use native.Mathlib.Nat.{le-antisymm}
@@ -12,13 +12,15 @@ use Rattle.making.specs.Change.{changedBy}
 use Rattle.making.specs.Work.{Added}
 use Rattle.sets.proofs.RowLaws.{row-inside, row-few, part-is, part-long}
 use Rattle.sets.proofs.FallLaws.{each-part}
-use Rattle.making.proofs.BuildLaws.{adding-start, adding-next, adding-done, room-next, room-few, step-vector, steps-count}
+use Rattle.making.proofs.BuildLaws.{adding-start, adding-next, adding-done, room-next}
+use Rattle.making.proofs.BuildLaws.{room-few, step-vector, steps-count}
 use borrow.Author.Needs.{needs}
 use Rattle.making.proofs.build.each.Statement.{statement}
 use Rattle.making.proofs.build.each.Tie as tie
 
 abbrev Inv-loop : tie.InvT-loop
-Inv-loop work₀ k list n change w m i₀ work i = (i ≤ m) × Added n work₀ k (take i (map (changedBy change n) (vectors n list))) work
+Inv-loop work₀ k list n change w m i₀ work i =
+    (i ≤ m) × Added n work₀ k (take i (map (changedBy change n) (vectors n list))) work
 
 abbrev μ-loop : tie.MeasureT-loop
 μ-loop work₀ k list n change w m i₀ work i = m - i
@@ -30,7 +32,10 @@ div-m : tie.Need-div-m Inv-loop μ-loop
 div-m c = search needs
 
 loop-holds : tie.Need-loop-holds Inv-loop μ-loop
-loop-holds c = (omega arith, adding-start _ _ _ (map (changedBy (c .args .change) (c .args .n)) (vectors (c .args .n) (c .args .list .now))))
+loop-holds c = (
+  omega arith,
+  adding-start _ _ _ (map (changedBy (c .args .change) (c .args .n)) (vectors (c .args .n) (c .args .list .now))),
+)
 
 mul-at : tie.Need-mul-at Inv-loop μ-loop
 mul-at c = omega (arith, c .before .before .good, row-inside (c .before .loop .i) _ _ (c .loop-test .taken))
@@ -43,13 +48,28 @@ add-one : tie.Need-add-one Inv-loop μ-loop
 add-one c =
     let s = c .before .before .before in
     let p = s .pre in
-    omega (arith, room-few (s .args .n) (s .args .k) (c .before .before .loop .i) _ _ (few (s .args .n) (s .args .list .now) _ (c .before .loop-test .taken)) (p .room), s .good)
+    omega (
+      arith,
+      room-few (s .args .n) (s .args .k) (c .before .before .loop .i) _ _
+          (few (s .args .n) (s .args .list .now) _ (c .before .loop-test .taken)) (p .room),
+      s .good,
+    )
 
 add-one-2 : tie.Need-add-one-2 Inv-loop μ-loop
-add-one-2 c = omega (arith, c .before .before .before .good, row-inside (c .before .before .loop .i) _ _ (c .before .loop-test .taken))
+add-one-2 c =
+    omega (
+      arith,
+      c .before .before .before .good,
+      row-inside (c .before .before .loop .i) _ _ (c .before .loop-test .taken),
+    )
 
 mul-one : tie.Need-mul-one Inv-loop μ-loop
-mul-one c = omega (arith, c .before .before .before .good, row-inside (c .before .before .loop .i) _ _ (c .before .loop-test .taken))
+mul-one c =
+    omega (
+      arith,
+      c .before .before .before .good,
+      row-inside (c .before .before .loop .i) _ _ (c .before .loop-test .taken),
+    )
 
 sub-one : tie.Need-sub-one Inv-loop μ-loop
 sub-one c = search needs
@@ -76,12 +96,18 @@ one-requires c κs =
       },
       record {
         room = rw (l .inv .1 .long)
-            (room-next (s .args .n) (s .args .k) (l .i) _ _ (few (s .args .n) (s .args .list .now) _ (c .before .before .loop-test .taken)) (p .room));
+            (room-next (s .args .n) (s .args .k) (l .i) _ _
+            (few (s .args .n) (s .args .list .now) _ (c .before .before .loop-test .taken)) (p .room));
       },
     )
 
 add-i : tie.Need-add-i Inv-loop μ-loop
-add-i c = omega (arith, row-few (c .before .before .before .before .before .loop .i) _ _ (c .before .before .before .before .loop-test .taken))
+add-i c =
+    omega (
+      arith,
+      row-few (c .before .before .before .before .before .loop .i) _ _
+          (c .before .before .before .before .loop-test .taken),
+    )
 
 loop-less : tie.Need-loop-less Inv-loop μ-loop
 loop-less c = search needs
@@ -91,10 +117,12 @@ loop-again c =
     let s = c .before .before .before .before .before .before in
     let l = c .before .before .before .before .before .loop in
     let t = c .before .before .before .before .loop-test .taken in
-    let f = changedBy (s .args .change) (s .args .n) in
-    (omega arith, adding-next _ _ _ (map f (vectors (s .args .n) (s .args .list .now))) (l .i) _ _ _
-    (subst (λ (m : ℕ). l .i < m) (sym (steps-count f (s .args .n) (s .args .list .now))) t)
-    (step-vector f (s .args .n) (s .args .list .now) (l .i) t) (l .inv .1) (c .before .one .ensures))
+    let f = changedBy (s .args .change) (s .args .n) in (
+      omega arith,
+      adding-next _ _ _ (map f (vectors (s .args .n) (s .args .list .now))) (l .i) _ _ _
+          (subst (λ (m : ℕ). l .i < m) (sym (steps-count f (s .args .n) (s .args .list .now))) t)
+          (step-vector f (s .args .n) (s .args .list .now) (l .i) t) (l .inv .1) (c .before .one .ensures),
+    )
 
 same-length : tie.Need-same-length Inv-loop μ-loop
 same-length c = c .before .loop .inv .1 .long
@@ -107,6 +135,7 @@ returns c =
     adding-done _ _ _ (map f (vectors (s .n) (s .list .now))) (l .i) _
     (le-antisymm (l .inv .0) (c .loop-test .left) ∙ sym (steps-count f (s .n) (s .list .now))) (l .inv .1)
 
+-- `each` meets its contract
 pub each-spec : {M : Type 1} → statement M
 each-spec =
     tie.close

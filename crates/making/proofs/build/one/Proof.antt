@@ -1,12 +1,11 @@
-use mathlib.Core.Path.{_≡_, sym, _∙_, ap, subst}
-use mathlib.Core.List.{List, [], _∷_}
+use mathlib.Core.Path.{sym, subst}
+use mathlib.Core.List.{[], _∷_}
 use Prim.Native.Nat.{suc, _+_}
 use native.Mathlib.Numerals.{add-one}
 use native.Mathlib.Omega.{arith}
-use lib.ListN.{length, take}
 use lib.Seq.{length-take-le}
 use Rattle.algebra.specs.Vectors.{Vector}
-use Rattle.making.specs.Work.{Pushed, Added}
+use Rattle.making.specs.Work.{Added}
 use Rattle.making.proofs.BuildLaws.{added-one}
 use borrow.Author.Needs.{needs}
 use Rattle.making.proofs.build.one.Statement.{statement}
@@ -25,7 +24,8 @@ slice-aggregate-push : tie.Need-slice-aggregate-push
 slice-aggregate-push c =
     let s = c .before .before .before .before in
     let e = c .before .before .before .changed .ensures .long in
-    sym (length-take-le (s .args .n + 1) (c .before .before .before .changed .result .words) (omega (arith, s .pre .0 .clocks)))
+    sym (length-take-le (s .args .n + 1) (c .before .before .before .changed .result .words)
+    (omega (arith, s .pre .0 .clocks)))
 
 push-requires : tie.Need-push-requires
 push-requires c κs =
@@ -47,9 +47,11 @@ returns : tie.Need-returns
 returns c =
     let d = c .before .before .before .before .before in
     let s = d .before in
-    subst (λ (u : Vector). Added (s .args .n) (s .args .work .now) (s .args .k) (u ∷ []) (c .before .push .last .0)) (d .changed .ensures .right)
+    subst (λ (u : Vector). Added (s .args .n) (s .args .work .now) (s .args .k) (u ∷ []) (c .before .push .last .0))
+    (d .changed .ensures .right)
     (added-one _ _ _ _ _ (rw (add-one (s .args .n)) at (c .before .push .ensures)))
 
+-- `one` meets its contract
 pub one-spec : {M : Type 1} → statement M
 one-spec =
     tie.close

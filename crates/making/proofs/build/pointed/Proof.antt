@@ -36,6 +36,7 @@ returns-2 c =
     pointed-all _ _ _ _ _ _ (sym (d .before .has-point .ensures) ∙ not-false _ (d .if1 .left))
     (stay-grown _ _ _ _ _ _ refl (c .before .each .ensures))
 
+-- `pointed` meets its contract
 pub pointed-spec : {M : Type 1} → statement M
 pointed-spec =
     tie.close

@@ -41,9 +41,11 @@ loop-again : tie.Need-loop-again Inv-loop μ-loop
 loop-again c =
     let l = c .before .before .before .before .before .loop in
     let h = inside (c .before .before .before .before) in
-    let e = c .before .before .try-one .ensures in
-    (omega (arith, h), try-long _ _ _ (l .alive) (l .i) _ e ∙ l .inv .1,
-    clean-more _ _ _ (l .alive) (l .i) _ _ (length (l .alive)) (l .inv .1) e h (l .inv .2))
+    let e = c .before .before .try-one .ensures in (
+      omega (arith, h),
+      try-long _ _ _ (l .alive) (l .i) _ e ∙ l .inv .1,
+      clean-more _ _ _ (l .alive) (l .i) _ _ (length (l .alive)) (l .inv .1) e h (l .inv .2),
+    )
 
 same-length : tie.Need-same-length Inv-loop μ-loop
 same-length c = c .before .loop .inv .1
@@ -53,6 +55,7 @@ returns c =
     let l = c .before .loop in
     sym (clean-done _ _ _ (l .alive) (l .i) (rw (← l .inv .1) (c .loop-test .left))) ∙ l .inv .2
 
+-- `clean` meets its contract
 pub clean-spec : {M : Type 1} → statement M
 clean-spec =
     tie.close

@@ -89,6 +89,7 @@ returns-2 c =
     rw (← add-one (a .n))
     (try-drops _ _ _ (a .alive .now) (a .i) (tested (c .before .before) ∙ ap nowhere (c .enum-told .given .1)))
 
+-- `try_one` meets its contract
 pub try-one-spec : {M : Type 1} → statement M
 try-one-spec =
     tie.close

@@ -133,6 +133,7 @@ returns-3 c =
     (subst (λ a. Writes (s .args .n) (s .args .work .now) a (s .args .area .now) (c .before .write .result)
     (c .before .write .last .0)) (lent d _) (c .before .write .ensures))
 
+-- `finish` meets its contract
 pub finish-spec : {M : Type 1} → statement M
 finish-spec =
     tie.close

@@ -73,6 +73,7 @@ returns-2 c =
     let w = writes-done _ _ _ _ (s .pre) _ _ _ (done d) (omega (arith, h, d .before .before .result2 .given)) in
     rw (c .before .copy .ensures, add-one (s .args .n)) w
 
+-- `write` meets its contract
 pub write-spec : {M : Type 1} → statement M
 write-spec =
     tie.close

@@ -1,17 +1,13 @@
-use mathlib.Core.Path.{_≡_, sym, _∙_, ap, subst}
-use mathlib.Core.List.{List, [], _∷_, map}
 use Prim.Native.Nat.{_+_, _*_, _≤_}
-use native.Mathlib.Numerals.{add-one}
 use native.Mathlib.Omega.{arith}
 use denote.Ref.{now}
 use lib.ListN.{length}
 use Rattle.numbers.specs.Numbers.{_≼_}
-use Rattle.numbers.specs.Words.{number}
 use Rattle.numbers.proofs.WordLaws.{back}
-use Rattle.algebra.specs.Vectors.{Vector, vector, vectors, count}
+use Rattle.algebra.specs.Vectors.{vectors}
 use Rattle.sets.proofs.RowLaws.{part-is}
 use Rattle.sets.proofs.FallLaws.{place-short, place-enough}
-use Rattle.making.specs.Work.{Added, mixedOf, sideWord}
+use Rattle.making.specs.Work.{sideWord}
 use Rattle.making.proofs.BuildLaws.{row-vector}
 use Rattle.making.proofs.HalfLaws.{counted, inside, row-long, row-near, cross-none, cross-one, cross-room}
 use borrow.Author.Needs.{needs}
@@ -29,7 +25,8 @@ row-j : (c : tie.Start) → c .args .j * (c .args .n + 1) + (c .args .n + 1) ≤
 row-j c = inside (c .args .n) (now (c .args .list)) (c .args .j) (c .pre .0 .2)
 
 -- vector j violates
-violates : (c : tie.Then1) → let a = c .before .before .before .args in ¬ (sideWord (now (a .ls)) (a .j) ≼ sideWord (now (a .rs)) (a .j))
+violates : (c : tie.Then1)
+    → let a = c .before .before .before .args in ¬ (sideWord (now (a .ls)) (a .j) ≼ sideWord (now (a .rs)) (a .j))
 violates c = place-short _ _ (c .before .if12 .given) (c .before .before .l .given) (c .if1 .taken)
 
 mul-l : tie.Need-mul-l
@@ -93,7 +90,12 @@ mixed-requires c κs =
     let a = s .args in
     let (p, i, j) = s .pre .0 in
     let w = a .n + 1 in
-    rw (part-is (now (a .list)) (a .i * w) w, part-is (now (a .list)) (a .j * w) w, back (t .before .before .l .given), back (c .before .before .before .r .given))
+    rw (
+      part-is (now (a .list)) (a .i * w) w,
+      part-is (now (a .list)) (a .j * w) w,
+      back (t .before .before .l .given),
+      back (c .before .before .before .r .given),
+    )
     (record {
       clocks = p .clocks;
       room = cross-room (a .n) _ (a .k) (now (a .ls)) (now (a .rs)) _ (a .i) (a .j) (violates t) (s .pre .1);
@@ -117,11 +119,16 @@ returns c =
     let s = t .before .before .before in
     let a = s .args in
     let w = a .n + 1 in
-    cross-one (a .n) (now (a .work)) (a .k) (now (a .ls)) (now (a .rs)) (vectors (a .n) (now (a .list))) (a .i) (a .j) _ (violates t)
-    (rw (part-is (now (a .list)) (a .i * w) w, part-is (now (a .list)) (a .j * w) w,
-    row-vector (a .n) (now (a .list)) (a .i) (counted (a .n) (now (a .list)) (a .i) (s .pre .0 .1)),
-    row-vector (a .n) (now (a .list)) (a .j) (counted (a .n) (now (a .list)) (a .j) (s .pre .0 .2)),
-    back (t .before .before .l .given), back (c .before .before .before .before .before .r .given)) at (c .before .mixed .ensures))
+    cross-one (a .n) (now (a .work)) (a .k) (now (a .ls)) (now (a .rs)) (vectors (a .n) (now (a .list))) (a .i) (a .j) _
+    (violates t)
+    (rw (
+      part-is (now (a .list)) (a .i * w) w,
+      part-is (now (a .list)) (a .j * w) w,
+      row-vector (a .n) (now (a .list)) (a .i) (counted (a .n) (now (a .list)) (a .i) (s .pre .0 .1)),
+      row-vector (a .n) (now (a .list)) (a .j) (counted (a .n) (now (a .list)) (a .j) (s .pre .0 .2)),
+      back (t .before .before .l .given),
+      back (c .before .before .before .before .before .r .given),
+    ) at (c .before .mixed .ensures))
 
 returns-2 : tie.Need-returns-2
 returns-2 c =
@@ -129,6 +136,7 @@ returns-2 c =
     cross-none (a .n) (now (a .work)) (a .k) (now (a .ls)) (now (a .rs)) (vectors (a .n) (now (a .list))) (a .i) (a .j)
     (place-enough _ _ (c .before .if12 .given) (c .before .before .l .given) (c .if1 .left))
 
+-- `cross` meets its contract
 pub cross-spec : {M : Type 1} → statement M
 cross-spec =
     tie.close

@@ -1,11 +1,10 @@
-use mathlib.Core.Path.{_≡_, refl, sym, _∙_, ap, subst}
+use mathlib.Core.Path.{refl, sym, _∙_, ap, subst}
 use mathlib.Core.List.{List}
 use Prim.Native.Nat.{_+_}
 use native.Mathlib.Numerals.{add-one}
 use native.Mathlib.Omega.{arith}
 use denote.Ref.{now}
-use lib.IntN.{pos}
-use lib.ListN.{length, replicate}
+use lib.ListN.{length}
 use Rattle.algebra.specs.Vectors.{Vector, vectors}
 use Rattle.algebra.specs.Wanted.{left, right}
 use Rattle.sets.specs.Tests.{part}
@@ -27,7 +26,8 @@ slice-aggregate-sides-2 : tie.Need-slice-aggregate-sides-2
 slice-aggregate-sides-2 c =
     let s = c .before .before in
     let a = s .args in
-    sym (ap length (left-is (a .n) (now (a .half)) (s .pre .long)) ∙ left-long (a .n) (now (a .half)) (s .pre .long) ∙ sym (add-one (a .n)))
+    sym (ap length (left-is (a .n) (now (a .half)) (s .pre .long)) ∙ left-long (a .n) (now (a .half)) (s .pre .long)
+    ∙ sym (add-one (a .n)))
 
 sides-requires : tie.Need-sides-requires
 sides-requires c κs =
@@ -107,18 +107,24 @@ keep-all-requires c κs =
     let s = l .before .before .before in
     let a = s .args in
     let p = s .pre in
-    let h = now (a .half) in
-    (record {
-      clocks = p .clocks;
-      few = p .few;
-      near = p .ofList;
-      lefts = lefts l .long;
-      rights = rights r .long;
-      ofLeft = sides-near (a .n) (part h 0 (a .n + 1)) (now (a .list)) (l .sides .last .0) (left-long (a .n) h (p .long))
-          (each-part h 0 (a .n + 1) (omega (arith, p .long)) (p .ofHalf)) (p .ofList) (rw (left-words (a .n) h (p .long)) (lefts l));
-      ofRight = sides-near (a .n) (part h (a .n + 1) (a .n + 1)) (now (a .list)) (r .sides2 .last .0) (right-long (a .n) h (p .long))
-          (each-part h (a .n + 1) (a .n + 1) (omega (arith, p .long)) (p .ofHalf)) (p .ofList) (rw (right-words (a .n) h (p .long)) (rights r));
-    }, crossed-room (a .n) _ _ (now (a .list)) _ _ _ (p .few) (p .room) (lefts l) (rights r))
+    let h = now (a .half) in (
+      record {
+        clocks = p .clocks;
+        few = p .few;
+        near = p .ofList;
+        lefts = lefts l .long;
+        rights = rights r .long;
+        ofLeft =
+            sides-near (a .n) (part h 0 (a .n + 1)) (now (a .list)) (l .sides .last .0) (left-long (a .n) h (p .long))
+            (each-part h 0 (a .n + 1) (omega (arith, p .long)) (p .ofHalf)) (p .ofList)
+            (rw (left-words (a .n) h (p .long)) (lefts l));
+        ofRight = sides-near (a .n) (part h (a .n + 1) (a .n + 1)) (now (a .list)) (r .sides2 .last .0)
+            (right-long (a .n) h (p .long))
+            (each-part h (a .n + 1) (a .n + 1) (omega (arith, p .long)) (p .ofHalf)) (p .ofList)
+            (rw (right-words (a .n) h (p .long)) (rights r));
+      },
+      crossed-room (a .n) _ _ (now (a .list)) _ _ _ (p .few) (p .room) (lefts l) (rights r),
+    )
 
 same-length : tie.Need-same-length
 same-length c = search needs
@@ -128,9 +134,11 @@ returns c =
     let r = c .before .before .before .before .before .before in
     let l = r .before .before .before .before in
     let a = l .before .before .before .args in
-    subst (λ (A : List Vector). Grown (a .n) (now (a .work)) 0 A (c .before .keep-all .result) (c .before .keep-all .last .0))
+    let k = c .before in
+    subst (λ (A : List Vector). Grown (a .n) (now (a .work)) 0 A (k .keep-all .result) (k .keep-all .last .0))
     (crossed-is (a .n) _ _ (vectors (a .n) (now (a .list))) _ _ (lefts l) (rights r)) (c .before .keep-all .ensures)
 
+-- `cut` meets its contract
 pub cut-spec : {M : Type 1} → statement M
 cut-spec =
     tie.close

@@ -1,4 +1,4 @@
-use mathlib.Core.Path.{_≡_, sym, _∙_, subst}
+use mathlib.Core.Path.{subst}
 use mathlib.Core.List.{[], _∷_}
 use Prim.Native.Nat.{_+_, _*_, _≤_}
 use native.Mathlib.Omega.{arith}
@@ -10,7 +10,8 @@ use Rattle.sets.proofs.RowLaws.{part-is}
 use Rattle.sets.proofs.FallLaws.{each-wider, place-short, place-enough}
 use Rattle.making.specs.Work.{Added, sideWord}
 use Rattle.making.proofs.BuildLaws.{added-one, row-vector}
-use Rattle.making.proofs.HalfLaws.{counted, inside, row-long, row-near, keep-none, keep-all, keep-room, keep-rest}
+use Rattle.making.proofs.HalfLaws.{counted, inside, row-long, row-near}
+use Rattle.making.proofs.HalfLaws.{keep-none, keep-all, keep-room, keep-rest}
 use borrow.Author.Needs.{needs}
 use Rattle.making.proofs.half.keep.Statement.{statement}
 use Rattle.making.proofs.half.keep.Tie as tie
@@ -94,9 +95,11 @@ cross-all-requires c κs =
     let p = c .before .before in
     let t = p .before .before .before in
     let s = t .before .before .before in
-    let a = s .args in
-    (s .pre .0, keep-rest (a .n) (now (a .work)) (a .k) (now (a .ls)) (now (a .rs)) (vectors (a .n) (now (a .list))) (a .i) (satisfies t) (p .push .last .0)
-    (stands p .long) (s .pre .1))
+    let a = s .args in (
+      s .pre .0,
+      keep-rest (a .n) (now (a .work)) (a .k) (now (a .ls)) (now (a .rs)) (vectors (a .n) (now (a .list))) (a .i)
+          (satisfies t) (p .push .last .0) (stands p .long) (s .pre .1),
+    )
 
 same-length : tie.Need-same-length
 same-length c = search needs
@@ -106,9 +109,11 @@ returns-2 c =
     let p = c .before .before .before .before in
     let t = p .before .before .before in
     let a = t .before .before .before .args in
-    keep-all (a .n) (now (a .work)) (a .k) (now (a .ls)) (now (a .rs)) (vectors (a .n) (now (a .list))) (a .i) (satisfies t) _ (p .push .last .0) _
+    keep-all (a .n) (now (a .work)) (a .k) (now (a .ls)) (now (a .rs)) (vectors (a .n) (now (a .list))) (a .i)
+    (satisfies t) _ (p .push .last .0) _
     (stands p) (c .before .cross-all .ensures)
 
+-- `keep` meets its contract
 pub keep-spec : {M : Type 1} → statement M
 keep-spec =
     tie.close

@@ -1,4 +1,4 @@
-use mathlib.Core.Path.{_≡_, sym, _∙_, subst}
+use mathlib.Core.Path.{sym, _∙_, subst}
 use Prim.Native.Nat.{ℕ, _≤_, _<_, _-_}
 use native.Mathlib.Nat.{le-antisymm}
 use native.Mathlib.Omega.{arith}
@@ -14,7 +14,8 @@ use Rattle.making.proofs.half.keep_all.Statement.{statement}
 use Rattle.making.proofs.half.keep_all.Tie as tie
 
 abbrev Inv-loop : tie.InvT-loop
-Inv-loop work₀ list n ls rs m c₀ i₀ work c i = (i ≤ m) × Grown n work₀ 0 (upTo i (crossesAt n ls rs (vectors n list))) c work
+Inv-loop work₀ list n ls rs m c₀ i₀ work c i =
+    (i ≤ m) × Grown n work₀ 0 (upTo i (crossesAt n ls rs (vectors n list))) c work
 
 abbrev μ-loop : tie.MeasureT-loop
 μ-loop work₀ list n ls rs m c₀ i₀ work c i = m - i
@@ -27,8 +28,10 @@ div-m c = search needs
 
 loop-holds : tie.Need-loop-holds Inv-loop μ-loop
 loop-holds c =
-    let a = c .args in
-    (omega arith, growing-start (a .n) _ 0 (crossesAt (a .n) (now (a .ls)) (now (a .rs)) (vectors (a .n) (now (a .list)))))
+    let a = c .args in (
+      omega arith,
+      growing-start (a .n) _ 0 (crossesAt (a .n) (now (a .ls)) (now (a .rs)) (vectors (a .n) (now (a .list)))),
+    )
 
 -- the loop goes over the vectors of the list
 inside : (c : tie.In-loop Inv-loop μ-loop) → let a = c .before .before .args in
@@ -42,13 +45,19 @@ unfolding crossedList
 keep-requires c κs =
     let l = c .before .before .loop in
     let s = c .before .before .before in
-    let a = s .args in
-    ((s .pre .0, uncounted (a .n) (now (a .list)) (l .i) (c .before .loop-test .taken)),
-    room-part (a .n) _ 0 (crossesAt (a .n) (now (a .ls)) (now (a .rs)) (vectors (a .n) (now (a .list)))) _ (l .i) (l .c) (l .work)
-    (inside (c .before)) (l .inv .1) (s .pre .1))
+    let a = s .args in (
+      (s .pre .0, uncounted (a .n) (now (a .list)) (l .i) (c .before .loop-test .taken)),
+      room-part (a .n) _ 0 (crossesAt (a .n) (now (a .ls)) (now (a .rs)) (vectors (a .n) (now (a .list)))) _ (l .i)
+          (l .c) (l .work) (inside (c .before)) (l .inv .1) (s .pre .1),
+    )
 
 add-i : tie.Need-add-i Inv-loop μ-loop
-add-i c = omega (arith, row-few (c .before .before .before .before .loop .i) _ _ (c .before .before .before .loop-test .taken), c .before .before .before .before .before .good)
+add-i c =
+    omega (
+      arith,
+      row-few (c .before .before .before .before .loop .i) _ _ (c .before .before .before .loop-test .taken),
+      c .before .before .before .before .before .good,
+    )
 
 loop-less : tie.Need-loop-less Inv-loop μ-loop
 loop-less c = search needs
@@ -56,10 +65,11 @@ loop-less c = search needs
 loop-again : tie.Need-loop-again Inv-loop μ-loop
 loop-again c =
     let l = c .before .before .before .before .loop in
-    let a = c .before .before .before .before .before .args in
-    (omega (arith, c .before .before .before .loop-test .taken),
-    growing-next (a .n) _ 0 (crossesAt (a .n) (now (a .ls)) (now (a .rs)) (vectors (a .n) (now (a .list)))) (l .i) (l .c) _ (l .work) _
-    (l .inv .1) (c .before .keep .ensures))
+    let a = c .before .before .before .before .before .args in (
+      omega (arith, c .before .before .before .loop-test .taken),
+      growing-next (a .n) _ 0 (crossesAt (a .n) (now (a .ls)) (now (a .rs)) (vectors (a .n) (now (a .list)))) (l .i)
+          (l .c) _ (l .work) _ (l .inv .1) (c .before .keep .ensures),
+    )
 
 same-length : tie.Need-same-length Inv-loop μ-loop
 same-length c = c .before .loop .inv .1 .added .long
@@ -69,9 +79,11 @@ unfolding crossedList
 returns c =
     let l = c .before .loop in
     let a = c .before .before .args in
-    growing-done (a .n) _ 0 (crossesAt (a .n) (now (a .ls)) (now (a .rs)) (vectors (a .n) (now (a .list)))) _ (l .i) (l .c) (l .work)
+    growing-done (a .n) _ 0 (crossesAt (a .n) (now (a .ls)) (now (a .rs)) (vectors (a .n) (now (a .list)))) _ (l .i)
+    (l .c) (l .work)
     (le-antisymm (l .inv .0) (c .loop-test .left) ∙ sym (rows-count (a .n) (now (a .list)))) (l .inv .1)
 
+-- `keep_all` meets its contract
 pub keep-all-spec : {M : Type 1} → statement M
 keep-all-spec =
     tie.close

@@ -1,22 +1,20 @@
 use mathlib.Core.Path.{_≡_, sym, _∙_, ap, subst}
-use mathlib.Core.List.{List, [], _∷_, _++_, map}
-use Prim.Native.Nat.{suc, _+_}
+use mathlib.Core.List.{[], _∷_, _++_}
+use Prim.Native.Nat.{_+_}
 use native.Mathlib.Numerals.{add-one}
 use native.Mathlib.Omega.{arith}
-use lib.IntN.{ℤ, pos}
-use lib.ListN.{length, take, drop, length-append, length-drop}
-use lib.Seq.{take-at, length-take-le}
+use lib.ListN.{length, take, drop, length-append}
+use lib.Seq.{take-at}
 use denote.Ref.{now}
 use Rattle.numbers.specs.Words.{number}
-use Rattle.numbers.specs.Places.{Each, Mixed}
+use Rattle.numbers.specs.Places.{Mixed}
 use Rattle.numbers.proofs.NumberLaws.{wider}
 use mir.Facts.{toZ-ofZ}
 use Rattle.algebra.specs.Vectors.{Vector}
 use Rattle.sets.proofs.FallLaws.{each-wider}
 use Rattle.making.specs.Work.{Added}
 use Rattle.making.proofs.BuildLaws.{added-one}
-use Rattle.making.proofs.ChangeLaws.{copied-long}
-use Rattle.making.proofs.HalfLaws.{mixed-long, mixed-words, mixed-near, copied-part}
+use Rattle.making.proofs.HalfLaws.{mixed-words, mixed-near, copied-part}
 use borrow.Author.Needs.{needs}
 use Rattle.making.proofs.half.mixed.Statement.{statement}
 use Rattle.making.proofs.half.mixed.Tie as tie
@@ -34,7 +32,8 @@ array-borrow-prefix-row : tie.Need-array-borrow-prefix-row
 array-borrow-prefix-row c = search needs
 
 -- the words that were copied are g
-front : (c : tie.After-copy) → take (c .before .before .args .n + 1) (c .copy .last .0) ≡ now (c .before .before .args .g)
+front : (c : tie.After-copy)
+    → take (c .before .before .args .n + 1) (c .copy .last .0) ≡ now (c .before .before .args .g)
 front c =
     let s = c .before .before in
     copied-part (s .args .n) (now (s .args .g)) (c .copy .last .0) (s .pre .clocks) (s .pre .longG) (c .copy .ensures)
@@ -48,9 +47,13 @@ mix-requires : tie.Need-mix-requires
 mix-requires c κs =
     let s = c .before .before .before .before in
     let p = s .pre in
-    rw (front (c .before .before), toZ-ofZ (s .fits .l), toZ-ofZ (s .fits .r))
-    (p .longH ∙ sym (p .longG), ((each-wider (omega arith) (p .nearG), each-wider (omega arith) (p .nearH)),
-    (wider (omega arith) (p .ofL), wider (omega arith) (p .ofR))))
+    rw (front (c .before .before), toZ-ofZ (s .fits .l), toZ-ofZ (s .fits .r)) (
+      p .longH ∙ sym (p .longG),
+      (
+        (each-wider (omega arith) (p .nearG), each-wider (omega arith) (p .nearH)),
+        (wider (omega arith) (p .ofL), wider (omega arith) (p .ofR)),
+      ),
+    )
 
 -- what stands in the row after mixing
 mixes : (c : tie.After-mix) → let s = c .before .before .before .before .before .args in
@@ -70,7 +73,14 @@ row-is : (c : tie.After-mix) → let n = c .before .before .before .before .befo
 row-is c = take-at (c .mix .last .0) _ _ (long c)
 
 array-share-prefix-row : tie.Need-array-share-prefix-row
-array-share-prefix-row c = omega (arith, long (c .before .before), length-append (c .before .before .mix .last .0) (drop (c .before .before .before .before .before .before .before .args .n + 1) (c .before .before .before .before .before .copy .last .0)))
+array-share-prefix-row c =
+    omega (
+      arith,
+      long (c .before .before),
+      length-append (c .before .before .mix .last .0)
+          (drop (c .before .before .before .before .before .before .before .args .n + 1)
+          (c .before .before .before .before .before .copy .last .0)),
+    )
 
 slice-aggregate-push : tie.Need-slice-aggregate-push
 slice-aggregate-push c = sym (ap length (row-is (c .before .before .before)) ∙ long (c .before .before .before))
@@ -98,6 +108,7 @@ returns c =
     (mixed-words (s .args .n) _ _ _ _ _ (s .pre .longG) (s .pre .longH) (mixes m))
     (added-one _ _ _ (m .mix .last .0) _ (rw (row-is m) at (c .before .push .ensures)))
 
+-- `mixed` meets its contract
 pub mixed-spec : {M : Type 1} → statement M
 mixed-spec =
     tie.close

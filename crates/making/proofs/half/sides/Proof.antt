@@ -1,15 +1,14 @@
-use mathlib.Core.Path.{_≡_, sym, _∙_, subst}
-use mathlib.Core.List.{List, map}
+use mathlib.Core.Path.{sym, _∙_, subst}
+use mathlib.Core.List.{map}
 use Prim.Native.Nat.{ℕ, _+_, _*_, _/_, _≤_, _<_, _-_}
 use native.Mathlib.Nat.{le-antisymm}
 use native.Mathlib.Numerals.{add-one}
 use native.Mathlib.Omega.{arith}
-use lib.IntN.{ℤ}
 use lib.ListN.{length}
 use Rattle.numbers.specs.Words.{number}
 use Rattle.numbers.proofs.WordLaws.{back}
 use Rattle.algebra.specs.Vectors.{vectors, count}
-use Rattle.sets.proofs.RowLaws.{row-inside, row-few, part-is, part-long}
+use Rattle.sets.proofs.RowLaws.{row-inside, part-is, part-long}
 use Rattle.sets.proofs.FallLaws.{each-wider, each-part}
 use Rattle.making.proofs.BuildLaws.{rows-count}
 use Rattle.making.proofs.SideLaws.{side-row, Siding, siding-start, siding-next, siding-done}
@@ -58,16 +57,20 @@ side-requires c κs =
     let i = c .before .before .loop .i in
     let w = s .args .n + 1 in
     let r = row-inside i w (length l) (c .before .loop-test .taken) in
-    rw (part-is l (i * w) w)
-    (p .long ∙ sym (part-long l (i * w) w r ∙ add-one (s .args .n)), each-wider (omega arith) (p .ofSide),
-    each-wider (omega arith) (each-part l (i * w) w r (p .ofList)))
+    rw (part-is l (i * w) w) (
+      p .long ∙ sym (part-long l (i * w) w r ∙ add-one (s .args .n)),
+      each-wider (omega arith) (p .ofSide),
+      each-wider (omega arith) (each-part l (i * w) w r (p .ofList)),
+    )
 
 -- there are at most 32 vectors
 few : (c : tie.In-loop Inv-loop μ-loop) → c .before .loop .i < 32
 few c =
     let s = c .before .before in
     let p = s .pre .few in
-    let t : c .before .loop .i < count (s .args .n) (s .args .list .now) = subst (λ (w : ℕ). c .before .loop .i < length (s .args .list .now) / w) (add-one (s .args .n)) (c .loop-test .taken) in
+    let t : c .before .loop .i < count (s .args .n) (s .args .list .now) =
+    subst (λ (w : ℕ). c .before .loop .i < length (s .args .list .now) / w) (add-one (s .args .n))
+    (c .loop-test .taken) in
     omega arith
 
 mul-t18 : tie.Need-mul-t18 Inv-loop μ-loop
@@ -86,9 +89,12 @@ loop-again : tie.Need-loop-again Inv-loop μ-loop
 loop-again c =
     let s = c .before .before .before .before in
     let l = c .before .before .before .loop in
-    let t = c .before .before .loop-test .taken in
-    (omega arith, siding-next _ _ _ (l .out) (l .i) _ (l .inv .1) (few (c .before .before))
-    (rw (back (c .side .ok)) (c .side .ensures ∙ side-row (s .args .n) (s .args .ab .now) (s .args .list .now) (l .i) (s .pre .long) t)))
+    let t = c .before .before .loop-test .taken in (
+      omega arith,
+      siding-next _ _ _ (l .out) (l .i) _ (l .inv .1) (few (c .before .before))
+          (rw (back (c .side .ok))
+          (c .side .ensures ∙ side-row (s .args .n) (s .args .ab .now) (s .args .list .now) (l .i) (s .pre .long) t)),
+    )
 
 same-length : tie.Need-same-length Inv-loop μ-loop
 same-length c = c .before .loop .inv .1 .long ∙ sym (c .before .before .pre .room)
@@ -97,8 +103,10 @@ returns : tie.Need-returns Inv-loop μ-loop
 returns c =
     let s = c .before .before .args in
     let l = c .before .loop in
-    siding-done _ _ _ (l .out) (l .i) (le-antisymm (l .inv .0) (c .loop-test .left) ∙ sym (rows-count (s .n) (s .list .now))) (l .inv .1)
+    siding-done _ _ _ (l .out) (l .i)
+    (le-antisymm (l .inv .0) (c .loop-test .left) ∙ sym (rows-count (s .n) (s .list .now))) (l .inv .1)
 
+-- `sides` meets its contract
 pub sides-spec : {M : Type 1} → statement M
 sides-spec =
     tie.close

@@ -28,5 +28,6 @@ returns-3 : tie.Need-returns-3
 unfolding delayChecked
 returns-3 c = rw (shape-yes (c .before .before), sym (c .before .list-fits .ensures) ∙ not-false _ (c .if2 .left))
 
+-- `delay` meets its contract
 pub delay-spec : {M : Type 1} → statement M
 delay-spec = tie.close (tie.spec shape-requires returns list-fits-requires returns-2 returns-3)

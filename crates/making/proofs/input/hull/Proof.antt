@@ -16,7 +16,8 @@ shape-requires c κs = search needs
 shape-yes : (c : tie.Else1) → let s = c .before .before .args in shapeOk (s .n) (s .first .now) (s .area .now) ≡ true
 shape-yes c = sym (c .before .shape .ensures) ∙ not-false _ (c .if1 .left)
 
-whole-yes : (c : tie.Else2) → let s = c .before .before .before .before .args in wholeOk (s .n) (length (s .second .now)) ≡ true
+whole-yes : (c : tie.Else2)
+    → let s = c .before .before .before .before .args in wholeOk (s .n) (length (s .second .now)) ≡ true
 whole-yes c = sym (c .before .whole .ensures) ∙ not-false _ (c .if2 .left)
 
 list-yes : (c : tie.Else3) → let s = c .before .before .before .before .before .before .args in
@@ -50,16 +51,25 @@ returns-4 : tie.Need-returns-4
 unfolding hullChecked
 returns-4 c =
     let d = c .before .before .before .before in
-    rw (shape-yes (d .before .before), whole-yes d, list-yes (c .before .before),
-    sym (c .before .list-fits2 .ensures) ∙ not-true _ (c .if4 .taken))
+    rw (
+      shape-yes (d .before .before),
+      whole-yes d,
+      list-yes (c .before .before),
+      sym (c .before .list-fits2 .ensures) ∙ not-true _ (c .if4 .taken),
+    )
 
 returns-5 : tie.Need-returns-5
 unfolding hullChecked
 returns-5 c =
     let d = c .before .before .before .before in
-    rw (shape-yes (d .before .before), whole-yes d, list-yes (c .before .before),
-    sym (c .before .list-fits2 .ensures) ∙ not-false _ (c .if4 .left))
+    rw (
+      shape-yes (d .before .before),
+      whole-yes d,
+      list-yes (c .before .before),
+      sym (c .before .list-fits2 .ensures) ∙ not-false _ (c .if4 .left),
+    )
 
+-- `hull` meets its contract
 pub hull-spec : {M : Type 1} → statement M
 hull-spec =
     tie.close

@@ -1,10 +1,9 @@
-use mathlib.Core.Path.{_≡_, sym, _∙_, ap}
+use mathlib.Core.Path.{_≡_, sym, _∙_}
 use mathlib.Core.Bool.{true}
-use Prim.Native.Nat.{suc, _+_, _*_, _≤_}
+use Prim.Native.Nat.{_≤_}
 use native.Mathlib.Numerals.{add-one}
 use native.Mathlib.Omega.{arith}
 use borrow.Author.Tests.{not-true, not-false, eq-eqb, ne-eqb}
-use lib.ListN.{length}
 use Rattle.sets.specs.Tests.{listOk}
 use Rattle.making.specs.Rules.{shapeOk, intersectChecked}
 use Rattle.making.proofs.InputLaws.{tells-shape}
@@ -22,7 +21,8 @@ shape-yes c = sym (c .before .shape .ensures) ∙ not-false _ (c .if1 .left)
 few : (c : tie.Else1) → c .before .before .args .n ≤ 6
 few c = tells-shape _ _ _ .yes (shape-yes c) .0 .few
 
-list-yes : (c : tie.Else3) → let s = c .before .before .before .before .before .args in listOk (s .n) (s .list .now) ≡ true
+list-yes : (c : tie.Else3)
+    → let s = c .before .before .before .before .before .args in listOk (s .n) (s .list .now) ≡ true
 list-yes c = sym (c .before .list-fits .ensures) ∙ not-false _ (c .if3 .left)
 
 returns : tie.Need-returns
@@ -46,8 +46,12 @@ returns-3 : tie.Need-returns-3
 unfolding intersectChecked
 returns-3 c =
     let d = c .before .before in
-    rw (← add-one (d .before .before .before .args .n), shape-yes (d .before), eq-eqb _ _ (d .if2 .left),
-    sym (c .before .list-fits .ensures) ∙ not-true _ (c .if3 .taken))
+    rw (
+      ← add-one (d .before .before .before .args .n),
+      shape-yes (d .before),
+      eq-eqb _ _ (d .if2 .left),
+      sym (c .before .list-fits .ensures) ∙ not-true _ (c .if3 .taken),
+    )
 
 add-words-fit : tie.Need-add-words-fit
 add-words-fit c = search needs
@@ -62,16 +66,27 @@ returns-4 : tie.Need-returns-4
 unfolding intersectChecked
 returns-4 c =
     let d = c .before .before .before .before in
-    rw (← add-one (d .before .before .before .args .n), shape-yes (d .before), eq-eqb _ _ (d .if2 .left),
-    list-yes (c .before .before), sym (c .before .words-fit .ensures) ∙ not-true _ (c .if4 .taken))
+    rw (
+      ← add-one (d .before .before .before .args .n),
+      shape-yes (d .before),
+      eq-eqb _ _ (d .if2 .left),
+      list-yes (c .before .before),
+      sym (c .before .words-fit .ensures) ∙ not-true _ (c .if4 .taken),
+    )
 
 returns-5 : tie.Need-returns-5
 unfolding intersectChecked
 returns-5 c =
     let d = c .before .before .before .before in
-    rw (← add-one (d .before .before .before .args .n), shape-yes (d .before), eq-eqb _ _ (d .if2 .left),
-    list-yes (c .before .before), sym (c .before .words-fit .ensures) ∙ not-false _ (c .if4 .left))
+    rw (
+      ← add-one (d .before .before .before .args .n),
+      shape-yes (d .before),
+      eq-eqb _ _ (d .if2 .left),
+      list-yes (c .before .before),
+      sym (c .before .words-fit .ensures) ∙ not-false _ (c .if4 .left),
+    )
 
+-- `intersect` meets its contract
 pub intersect-spec : {M : Type 1} → statement M
 intersect-spec =
     tie.close

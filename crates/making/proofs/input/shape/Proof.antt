@@ -1,5 +1,5 @@
 use mathlib.Core.Path.{_≡_, sym, _∙_}
-use mathlib.Core.Bool.{true, false}
+use mathlib.Core.Bool.{true}
 use native.Mathlib.Numerals.{add-one}
 use native.Mathlib.Omega.{arith}
 use borrow.Author.Tests.{not-true, not-false}
@@ -36,9 +36,13 @@ mul-result c = let h = tells-clocks _ .yes (clocks-yes (c .before .before)) .few
 returns-3 : tie.Need-returns-3
 unfolding shapeOk
 returns-3 c =
-    rw (← add-one (c .before .before .before .before .args .n), clocks-yes (c .before .before),
-    sym (c .before .whole .ensures) ∙ not-false _ (c .if2 .left))
+    rw (
+      ← add-one (c .before .before .before .before .args .n),
+      clocks-yes (c .before .before),
+      sym (c .before .whole .ensures) ∙ not-false _ (c .if2 .left),
+    )
 
+-- `shape` meets its contract
 pub shape-spec : {M : Type 1} → statement M
 shape-spec =
     tie.close

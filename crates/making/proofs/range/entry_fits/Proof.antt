@@ -15,5 +15,6 @@ returns-3 c =
     let s = c .before .before in
     rw (c .before .if1 .left, toZ-ofZ (s .fits .x)) (ray-finite (not-mark (s .fits .x) (c .if2 .left)))
 
+-- `entry_fits` meets its contract
 pub entry-fits-spec : {M : Type 1} → statement M
 entry-fits-spec = tie.close (tie.spec returns returns-2 returns-3)

@@ -114,6 +114,7 @@ returns-2 c =
     rw (← add-one (c .before .before .before .args .n))
     (every-done _ _ (l .i) (le-antisymm (l .inv .0) (c .loop-test .left)) (l .inv .1))
 
+-- `fits` meets its contract
 pub fits-spec : {M : Type 1} → statement M
 fits-spec =
     tie.close

@@ -69,6 +69,7 @@ unfolding rowOk
 returns-2 c =
     every-done _ (c .before .before .before .args .n) (c .before .loop .j) (omega arith) (c .before .loop .inv .1)
 
+-- `row_fits` meets its contract
 pub row-fits-spec : {M : Type 1} → statement M
 row-fits-spec =
     tie.close

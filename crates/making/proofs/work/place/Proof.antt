@@ -1,11 +1,11 @@
 use Prim.Native.Nat.{_-_}
 use native.Mathlib.Omega.{arith}
 use lib.ListN.{length}
-use mathlib.Core.Path.{_≡_, sym, _∙_, ap}
+use mathlib.Core.Path.{_≡_, sym, _∙_}
 use mir.Syntax.{w32}
 use mir.Val.{toZ}
 use mir.Facts.{toZ-ofZ}
-use Rattle.numbers.specs.Numbers.{Num, fin, _⊗_, Within}
+use Rattle.numbers.specs.Numbers.{fin, Within}
 use Rattle.numbers.specs.Words.{number}
 use Rattle.numbers.specs.Places.{entries}
 use Rattle.numbers.proofs.WordLaws.{back}
@@ -68,6 +68,7 @@ returns c =
     let l = c .before .loop in
     rw (← toZ-ofZ (s .fits .by)) (shifting-done _ _ (l .out) (l .j) (l .inv) (omega arith))
 
+-- `place` meets its contract
 pub place-spec : {M : Type 1} → statement M
 place-spec =
     tie.close

@@ -1,9 +1,9 @@
-use mathlib.Core.Path.{_≡_, refl, sym, _∙_, ap, subst}
+use mathlib.Core.Path.{_≡_, refl, sym, _∙_}
 use Prim.Native.Nat.{_+_}
 use native.Mathlib.Omega.{arith}
 use native.Mathlib.Numerals.{add-one}
-use lib.IntN.{ℤ, pos, negℤ, _-ℤ_}
-use lib.ListN.{getD, length}
+use lib.IntN.{pos, negℤ, _-ℤ_}
+use lib.ListN.{getD}
 use mir.Syntax.{w32}
 use mir.Val.{SFits}
 use Rattle.numbers.specs.Numbers.{−∞, fin, ⨁, Within}
@@ -39,7 +39,8 @@ sub-result c = rw (back (c .before .last .given)) (last-neg c .0)
 returns : tie.Need-returns
 returns c =
     let s = c .before .before .args in
-    negated-back (getD (s .vector .now) (s .n) (pos 0)) (c .before .last .given) (last-neg c .0) ∙ shift-point (s .n) (s .vector .now) _ (last-fin c .is) refl
+    negated-back (getD (s .vector .now) (s .n) (pos 0)) (c .before .last .given) (last-neg c .0)
+    ∙ shift-point (s .n) (s .vector .now) _ (last-fin c .is) refl
 
 add-zeros : tie.Need-add-zeros
 add-zeros c = search needs
@@ -48,14 +49,17 @@ array-share-prefix-zeros : tie.Need-array-share-prefix-zeros
 array-share-prefix-zeros c = search needs
 
 slice-aggregate-side : tie.Need-slice-aggregate-side
-slice-aggregate-side c = let s = c .before .before .before in sym (zeros-long (s .args .n + 1) (omega (arith, s .pre .0)))
+slice-aggregate-side c =
+    let s = c .before .before .before in sym (zeros-long (s .args .n + 1) (omega (arith, s .pre .0)))
 
 side-requires : tie.Need-side-requires
 side-requires c κs =
     let s = c .before .before .before in
-    let h = s .pre .0 in
-    (zeros-long (s .args .n + 1) (omega arith) ∙ add-one _ ∙ sym (s .pre .1), zeros-each (s .args .n + 1) (omega arith),
-    each-wider (omega arith) (s .pre .2))
+    let h = s .pre .0 in (
+      zeros-long (s .args .n + 1) (omega arith) ∙ add-one _ ∙ sym (s .pre .1),
+      zeros-each (s .args .n + 1) (omega arith),
+      each-wider (omega arith) (s .pre .2),
+    )
 
 -- the last entry is −∞, and the side of zeros is the largest entry
 ray : (c : tie.After-side) → let s = c .before .before .before .before .args in entries (s .vector .now) (s .n) ≡ −∞
@@ -94,6 +98,7 @@ returns-3 c =
     negated-back (d .side .result) (d .side .ok) (most-neg c .0)
     ∙ shift-ray (s .n) (s .vector .now) _ (ray d) (most-some (s .n) (s .vector .now) _ (most-fin c) (most d))
 
+-- `shift` meets its contract
 pub shift-spec : {M : Type 1} → statement M
 shift-spec =
     tie.close
