@@ -21,7 +21,9 @@ use Rattle.making.specs.Clean.{canonicalOf}
 use Rattle.making.specs.Rules.{Result, rangeOk, finished, shapeOk, intersectChecked, intersectOf, delayChecked}
 use Rattle.making.specs.Rules.{delayOf, resetChecked, resetOf, hullChecked, hullOf}
 use Rattle.making.proofs.Rules.{intersect-meets, delay-meets, reset-meets, hull-meets}
-use Rattle.examples.specs.Rows.{Row, contains, included, intersect, delay, reset, hull, Right, AllRight, rows}
+use Rattle.codec.specs.Number.{bytesOf, numberIn}
+use Rattle.examples.specs.Rows.{Row, contains, included, intersect, delay, reset, hull, in-bytes, no-number, fold}
+use Rattle.examples.specs.Rows.{Right, AllRight, rows}
 
 -- the result of a rule is the answer and the area expected
 abbrev Gives : Result → Made → List ℤ → Type 0
@@ -35,6 +37,9 @@ Computes (intersect n list half before answer after) = Gives (intersectOf n list
 Computes (delay n list before answer after) = Gives (delayOf n list before) answer after
 Computes (reset n list clock value before answer after) = Gives (resetOf n list clock value before) answer after
 Computes (hull n one other before answer after) = Gives (hullOf n one other before) answer after
+Computes (in-bytes v bytes) = Right (in-bytes v bytes)
+Computes (no-number bytes refusal) = Right (no-number bytes refusal)
+Computes (fold k v) = Right (fold k v)
 
 -- what holds of a result holds of the answer and the area that it gives
 given : (P : Made → List ℤ → Type 0) (result : Result) (answer : Made) (after : List ℤ)
@@ -57,6 +62,9 @@ right (reset n list clock value before answer after) e =
 right (hull n one other before answer after) e =
     given (λ a w. Right (hull n one other before a w)) (hullOf n one other before) answer after e
     (hull-meets n one other before)
+right (in-bytes v bytes) e = e
+right (no-number bytes refusal) e = e
+right (fold k v) e = e
 
 -- of every row of a list
 abbrev AllCompute : List Row → Type 0
@@ -80,6 +88,7 @@ unfolding rows containsOf containsChecked includedOf includedChecked inside hasP
     intersectChecked delayOf delayChecked resetOf resetChecked hullOf hullChecked shapeOk finished rangeOk canonicalOf
     cleaned sorted insert earlier lowerFrom kept cleanFlags cleanFrom tryOne masked normal hullList withPoint somePoint
     intersectList crossings crossing satisfies sideAt sideOf each vectors pieces words tab
+    numberIn bytesOf
 examples-right = all-right rows (
     (refl, refl) ▹ (refl, refl) ▹ (refl, refl) ▹ refl ▹ refl ▹ (refl, refl) ▹ refl ▹ refl ▹ (refl, refl) ▹ refl
-    ▹ (refl, refl) ▹ (refl, refl) ▹ tt)
+    ▹ (refl, refl) ▹ (refl, refl) ▹ (refl, refl) ▹ (refl, refl) ▹ (refl, refl) ▹ refl ▹ refl ▹ tt)

@@ -1,6 +1,7 @@
 -- The worked examples (docs/RULES.md, "Examples"): each row is a call, its arguments and the answer expected; of a
 -- call that makes a set, also the result area before and after.
 use mathlib.Core.List.{List, [], _∷_, _++_}
+use mathlib.Core.Path.{_≡_}
 use Prim.Native.Nat.{ℕ, suc, _*_}
 use lib.IntN.{ℤ, pos, negsuc}
 use lib.ListN.{length, drop, replicate}
@@ -12,8 +13,10 @@ use Rattle.sets.specs.declared.Told.the-variants.{Yes, No}
 use Rattle.making.specs.Calls.{Intersects, Delays, Resets, Hulls}
 use Rattle.making.specs.declared.Made.{Made}
 use Rattle.making.specs.declared.Made.the-variants.{Vectors, Refused}
+use Rattle.codec.specs.Number.{got, refused, bytesOf, numberIn, folded}
 
--- a call with its arguments, then the answer; where a set is made, the area, the answer and the area afterwards
+-- a call with its arguments, then the answer; where a set is made, the area, the answer and the area afterwards;
+-- a number and its bytes; bytes that are no number, and the refusal; a signed number and what it is folded to
 pub data Row : Type 0 where
   contains : ℕ → List ℤ → List ℤ → Told → Row
   included : ℕ → List ℤ → List ℤ → Told → Row
@@ -21,6 +24,9 @@ pub data Row : Type 0 where
   delay : ℕ → List ℤ → List ℤ → Made → List ℤ → Row
   reset : ℕ → List ℤ → ℕ → ℤ → List ℤ → Made → List ℤ → Row
   hull : ℕ → List ℤ → List ℤ → List ℤ → Made → List ℤ → Row
+  in-bytes : ℕ → List ℕ → Row
+  no-number : List ℕ → ℕ → Row
+  fold : ℤ → ℕ → Row
 
 -- a row is right if the call's contract allows the answer and the area afterwards
 abbrev pub Right : Row → Type 0
@@ -30,6 +36,9 @@ Right (intersect n list half before answer after) = Intersects n list half befor
 Right (delay n list before answer after) = Delays n list before answer after
 Right (reset n list clock value before answer after) = Resets n list clock value before answer after
 Right (hull n one other before answer after) = Hulls n one other before answer after
+Right (in-bytes v bytes) = (bytesOf v ≡ bytes) × (numberIn bytes ≡ got v [])
+Right (no-number bytes refusal) = numberIn bytes ≡ refused refusal
+Right (fold k v) = folded k ≡ v
 
 -- every row of a list is right
 abbrev pub AllRight : List Row → Type 0
@@ -106,4 +115,10 @@ rows =
     -- 8: point (1000000,0) with clock 1 ≥ 1: RANGE with ray (0,−1000000); with ray (0,0), point (1000000,1)
     ∷ intersect 2 (far 0 (negsuc 999999)) above (area 2) (Refused Range) (area 2)
     ∷ intersect 2 (far 0 (pos 0)) above (area 2) (Vectors 2) (areaWith 2 (far 1 (pos 0)))
+    -- 11: numbers as bytes
+    ∷ in-bytes 127 (127 ∷ [])
+    ∷ in-bytes 128 (128 ∷ 1 ∷ [])
+    ∷ in-bytes 1000000 (192 ∷ 132 ∷ 61 ∷ [])
+    ∷ no-number (128 ∷ 0 ∷ []) 7
+    ∷ fold (negsuc 0) 1
     ∷ []

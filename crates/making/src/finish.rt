@@ -1,5 +1,5 @@
 // The result of a call: the vectors of working memory cleaned, looked at, sorted, and written once.
-ghost use Prim.Native.Nat.{suc, _*_};
+ghost use Prim.Native.Nat.{suc};
 ghost use Rattle.sorting.specs.Rows.{held};
 ghost use Rattle.making.specs.Finish.{Finishable, Finishes, Writable, Writes};
 use crate::Made;

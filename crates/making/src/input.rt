@@ -19,6 +19,7 @@ fn shape(n: usize, list: &[i32], area: &[i32]) -> bool
     32 * (n + 1) <= area.len()
 }
 
+// The input of `intersect`: good, or the first refusal.
 pub fn intersect(n: usize, list: &[i32], half: &[i32], area: &[i32]) -> Checked
     ensures { λ r. ⌜ r ≡ intersectChecked n (now (list .entry)) (now (half .entry)) (now (area .entry)) ⌝ }
 {
@@ -37,6 +38,7 @@ pub fn intersect(n: usize, list: &[i32], half: &[i32], area: &[i32]) -> Checked
     Checked::Good
 }
 
+// The input of `delay`: good, or the first refusal.
 pub fn delay(n: usize, list: &[i32], area: &[i32]) -> Checked
     ensures { λ r. ⌜ r ≡ delayChecked n (now (list .entry)) (now (area .entry)) ⌝ }
 {
@@ -49,6 +51,7 @@ pub fn delay(n: usize, list: &[i32], area: &[i32]) -> Checked
     Checked::Good
 }
 
+// The input of `reset`: good, or the first refusal.
 pub fn reset(n: usize, list: &[i32], clock: usize, value: i32, area: &[i32]) -> Checked
     ensures { λ r. ⌜ r ≡ resetChecked n (now (list .entry)) clock value (now (area .entry)) ⌝ }
 {
@@ -65,6 +68,7 @@ pub fn reset(n: usize, list: &[i32], clock: usize, value: i32, area: &[i32]) -> 
     Checked::Good
 }
 
+// The input of `hull`: good, or the first refusal.
 pub fn hull(n: usize, first: &[i32], second: &[i32], area: &[i32]) -> Checked
     ensures { λ r. ⌜ r ≡ hullChecked n (now (first .entry)) (now (second .entry)) (now (area .entry)) ⌝ }
 {

@@ -1,6 +1,6 @@
 // Vectors put one behind the other into working memory, each shifted as a canonical list wants it.
 ghost use mathlib.Core.Path.{_≡_};
-ghost use Prim.Native.Nat.{suc, _+_, _≤_};
+ghost use Prim.Native.Nat.{suc, _≤_};
 ghost use lib.ListN.{length};
 ghost use Rattle.numbers.specs.Numbers.{fin, Within};
 ghost use Rattle.numbers.specs.Places.{Each};

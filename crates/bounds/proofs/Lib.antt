@@ -1,0 +1,5 @@
+pub mod KindLaws
+pub mod LimitLaws
+pub mod EntryTrip
+pub mod BoundTrip
+pub mod BoundSize

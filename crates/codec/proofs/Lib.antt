@@ -1,0 +1,10 @@
+pub mod Cases
+pub mod FoldLaws
+pub mod NumberBytes
+pub mod FormLaws
+pub mod ArrayLaws
+pub mod PackedLaws
+pub mod WriteLaws
+pub mod NumberTrip
+pub mod FormTrip
+pub mod FormSize

@@ -1,0 +1,5 @@
+pub mod Models
+pub mod Limits
+pub mod Written
+pub mod Answers
+pub mod Plain

@@ -1,0 +1,114 @@
+// A model in its limits, written as bytes from a place on. Each function says where its bytes end.
+ghost use mathlib.Core.List.{_++_};
+ghost use mathlib.Core.Path.{_≡_};
+ghost use Prim.Native.Nat.{_≤_};
+ghost use lib.ListN.{length, take, drop};
+ghost use Rattle.codec.specs.Arrays.{each, Packed};
+ghost use Rattle.codec.specs.Answers.{Writes, Room};
+ghost use Rattle.bounds.specs.Bounds.{noBounds};
+ghost use Rattle.bounds.specs.Limits.{BoundsLimits};
+ghost use Rattle.bounds.specs.Written.{boundsBytes};
+ghost use Rattle.model.specs.Models.{noEdge};
+ghost use Rattle.model.specs.Limits.{EdgeLimits, ModelLimits};
+ghost use Rattle.model.specs.Written.{headBytes, edgeBytes, goalBytes, modelBytes};
+use crate::Edge;
+use crate::Model;
+use bounds::Bounds;
+
+// Clocks, locations, edges, initial location.
+fn write_head(out: &mut [u8], m: Model) -> usize
+    requires { ⌜ ModelLimits m × Room 0 (headBytes m) (now out) ⌝ }
+    ensures { λ r. ⌜ Writes (now (out .entry)) 0 (headBytes m) (now (out .exit)) r ⌝ }
+{
+    let a = codec::write_number(&mut *out, 0, m.clocks);
+    let b = codec::write_number(&mut *out, a, m.locations);
+    let d = codec::write_number(&mut *out, b, m.edges);
+    codec::write_number(&mut *out, d, m.initial)
+}
+
+// The invariant lists of the locations.
+fn write_invariants(
+    out: &mut [u8],
+    at: usize,
+    invariants: [Bounds; 32],
+    n: u32,
+    count: usize,
+) -> usize
+    requires { ⌜ (n ≤ 6) × Packed (BoundsLimits n) noBounds 32 count invariants ⌝ }
+    requires { ⌜ Room at (each (boundsBytes n) (take count invariants)) (now out) ⌝ }
+    ensures { λ r. ⌜ Writes (now (out .entry)) at (each (boundsBytes n) (take count invariants)) (now (out .exit)) r ⌝ }
+{
+    let mut i = 0;
+    let mut from = at;
+    while i < count {
+        let bs = invariants[i];
+        from = bounds::writer::write_bounds(&mut *out, from, bs, n);
+        i += 1;
+    }
+    from
+}
+
+// An edge of a model with n clocks and l locations.
+fn write_edge(out: &mut [u8], at: usize, e: Edge, n: u32, l: u32) -> usize
+    requires { ⌜ (n ≤ 6) × (l ≤ 32) × EdgeLimits n l e ⌝ }
+    requires { ⌜ Room at (edgeBytes n e) (now out) ⌝ }
+    ensures { λ r. ⌜ Writes (now (out .entry)) at (edgeBytes n e) (now (out .exit)) r ⌝ }
+{
+    let guard = e.guard;
+    let a = codec::write_number(&mut *out, at, e.source);
+    let b = codec::write_number(&mut *out, a, e.destination);
+    let d = bounds::writer::write_bounds(&mut *out, b, guard, n);
+    codec::write_number(&mut *out, d, e.resets)
+}
+
+// The edges.
+fn write_edges(out: &mut [u8], at: usize, steps: [Edge; 64], n: u32, l: u32, count: usize) -> usize
+    requires { ⌜ (n ≤ 6) × (l ≤ 32) × Packed (EdgeLimits n l) noEdge 64 count steps ⌝ }
+    requires { ⌜ Room at (each (edgeBytes n) (take count steps)) (now out) ⌝ }
+    ensures { λ r. ⌜ Writes (now (out .entry)) at (each (edgeBytes n) (take count steps)) (now (out .exit)) r ⌝ }
+{
+    let mut i = 0;
+    let mut from = at;
+    while i < count {
+        let e = steps[i];
+        from = write_edge(&mut *out, from, e, n, l);
+        i += 1;
+    }
+    from
+}
+
+// Target location and list, depth.
+fn write_goal(out: &mut [u8], at: usize, m: Model) -> usize
+    requires { ⌜ ModelLimits m × Room at (goalBytes m) (now out) ⌝ }
+    ensures { λ r. ⌜ Writes (now (out .entry)) at (goalBytes m) (now (out .exit)) r ⌝ }
+{
+    let list = m.list;
+    let a = codec::write_number(&mut *out, at, m.target);
+    let b = bounds::writer::write_bounds(&mut *out, a, list, m.clocks);
+    codec::write_number(&mut *out, b, m.depth)
+}
+
+// A model at the start of an area.
+pub fn write_model(out: &mut [u8], m: Model) -> usize
+    requires { ⌜ ModelLimits m × Room 0 (modelBytes m) (now out) ⌝ }
+    ensures { λ r. ⌜ Writes (now (out .entry)) 0 (modelBytes m) (now (out .exit)) r ⌝ }
+{
+    let invariants = m.invariants;
+    let steps = m.steps;
+    let a = write_head(&mut *out, m);
+    let b = write_invariants(&mut *out, a, invariants, m.clocks, m.locations as usize);
+    let d = write_edges(&mut *out, b, steps, m.clocks, m.locations, m.edges as usize);
+    write_goal(&mut *out, d, m)
+}
+
+// Copies bytes to the start of an area that has room for them.
+pub fn copy(out: &mut [u8], bytes: &[u8])
+    requires { ⌜ length (now bytes) ≤ length (now out) ⌝ }
+    ensures { λ _. ⌜ now (out .exit) ≡ now (bytes .entry) ++ drop (length (now (bytes .entry))) (now (out .entry)) ⌝ }
+{
+    let mut i = 0;
+    while i < bytes.len() {
+        out[i] = bytes[i];
+        i += 1;
+    }
+}
