@@ -8,3 +8,4 @@ pub mod WriteLaws
 pub mod NumberTrip
 pub mod FormTrip
 pub mod FormSize
+pub mod Settled

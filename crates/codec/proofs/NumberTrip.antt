@@ -60,8 +60,8 @@ pub record Stood (s : List ℕ) (v : ℕ) (t : List ℕ) : Type 0 where
   pub fits : v < 2097152
   pub whole : s ≡ bytesOf v ++ t
 
--- two values read from one place are the same
-same-value : {A : Type 0} {a b : A} {s t : List ℕ} → got a s ≡ got b t → (a ≡ b) × (s ≡ t)
+-- two values read from one place are the same, and so is what is left
+pub same-value : {A : Type 0} {a b : A} {s t : List ℕ} → got a s ≡ got b t → (a ≡ b) × (s ≡ t)
 same-value e = (cc, cc)
 
 differ : {A : Type 0} {a : A} {s : List ℕ} {n : ℕ} → refused n ≡ got a s → ⊥

@@ -3,10 +3,8 @@ use mathlib.Core.List.{List, [], _∷_, _++_, append-nil}
 use mathlib.Core.Path.{_≡_, refl, sym, ap, _∙_, subst}
 use Prim.Native.Nat.{ℕ, _≤_, _<_}
 use native.Mathlib.Omega.{arith}
-use lib.ListN.{length, getD, take}
-use Rattle.numbers.specs.Refusals.{refusalNumber}
-use Rattle.numbers.specs.declared.Refusal.{Refusal}
-use Rattle.numbers.specs.declared.Refusal.the-variants.{Shape, Entry, Arg, Range, Gens, Room, Bytes, Model as Field}
+use lib.ListN.{length, take}
+use Rattle.numbers.proofs.RefusalLaws.{number-inj}
 use Rattle.codec.specs.declared.Step.{Step}
 use Rattle.codec.specs.declared.Step.the-variants.{At, Refused as Stopped}
 use Rattle.codec.specs.Number.{Got, got, refused}
@@ -68,23 +66,6 @@ pub first-bytes : (s : List ℕ) → readOf (take 33665 s) ≡ readOf s
 first-bytes = sizes.first-bytes
 
 -- ---- the contracts settle the answers
--- the refusal of a number
-abbrev refusalOf : ℕ → Refusal
-refusalOf n = getD (Shape ∷ Shape ∷ Entry ∷ Arg ∷ Range ∷ Gens ∷ Room ∷ Bytes ∷ Field ∷ []) n Shape
-
-known : (e : Refusal) → refusalOf (refusalNumber e) ≡ e
-known Shape = refl
-known Entry = refl
-known Arg = refl
-known Range = refl
-known Gens = refl
-known Room = refl
-known Bytes = refl
-known Field = refl
-
-same-refusal : (e f : Refusal) → refusalNumber e ≡ refusalNumber f → e ≡ f
-same-refusal e f q = sym (known e) ∙ ap refusalOf q ∙ known f
-
 same-number : {A : Type 0} {a b : ℕ} → _≡_ {A = Said A} (refusal a) (refusal b) → a ≡ b
 same-number q = cc
 
@@ -99,13 +80,13 @@ pub read-settled : (s : List ℕ) (p q : Step) (m n : Model) → ReadsModel s p 
 read-settled s (At a) (At b) m n v w =
     (ap At (v .whole a refl ∙ sym (w .whole b refl)), same-value (v .said ∙ sym (w .said)))
 read-settled s (Stopped e) (Stopped f) m n v w =
-    (ap Stopped (same-refusal e f (same-number (v .said ∙ sym (w .said)))), v .beside e refl ∙ sym (w .beside f refl))
+    (ap Stopped (number-inj e f (same-number (v .said ∙ sym (w .said)))), v .beside e refl ∙ sym (w .beside f refl))
 read-settled s (At a) (Stopped f) m n v w = absurd (apart (v .said ∙ sym (w .said)))
 read-settled s (Stopped e) (At b) m n v w = absurd (apart (w .said ∙ sym (v .said)))
 
 same-answer : (r q : Written) → writtenSaid r ≡ writtenSaid q → r ≡ q
 same-answer (Count a) (Count b) e = ap Count (same-value e)
-same-answer (Refused a) (Refused b) e = ap Refused (same-refusal a b (same-number e))
+same-answer (Refused a) (Refused b) e = ap Refused (number-inj a b (same-number e))
 same-answer (Count a) (Refused b) e = absurd (apart e)
 same-answer (Refused a) (Count b) e = absurd (apart (sym e))
 

@@ -56,6 +56,11 @@ fails {P} {b} t n = go b refl
     go true e = absurd (n (t .yes e))
     go false e = e
 
+-- two tests of one statement agree
+pub tells-settled : {P : Type 0} (a b : Bool) → Tells a P → Tells b P → a ≡ b
+tells-settled true b t u = sym (passes u (t .yes refl))
+tells-settled false b t u = sym (fails u (t .no refl))
+
 -- two tests that must both pass
 pub both : {P Q : Type 0} (a b : Bool) → Tells a P → Tells b Q → Tells (a && b) (P × Q)
 both true true p q = always (p .yes refl, q .yes refl)

@@ -89,7 +89,7 @@ impl Vector {
 }
 
 // The larger of two numbers.
-pub fn larger(a: i32, b: i32) -> i32
+fn larger(a: i32, b: i32) -> i32
     ensures { λ r. ⌜ number r ≡ number a ⊕ number b ⌝ }
 {
     if a < b { b } else { a }

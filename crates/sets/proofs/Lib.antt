@@ -5,3 +5,4 @@ pub mod TestLaws
 pub mod FallLaws
 pub mod Membership
 pub mod Asking
+pub mod Settled

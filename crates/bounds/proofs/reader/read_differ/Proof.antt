@@ -1,13 +1,32 @@
 use Rattle.codec.proofs.FoldLaws.{same-word}
-use mathlib.Core.Path.{refl, ap, _∙_}
+use mathlib.Core.Bool.{cond}
+use mathlib.Core.List.{List}
+use mathlib.Core.Path.{_≡_, refl, ap, _∙_}
+use Prim.Native.Nat.{ℕ}
+use lib.Dec.{eqb}
+use Rattle.numbers.specs.Refusals.{refusalNumber}
+use Rattle.numbers.specs.declared.Refusal.the-variants.{Model}
+use Rattle.codec.specs.Number.{Got, refused}
+use Rattle.codec.specs.Form.{Form, fault}
+use Rattle.bounds.specs.declared.Bound.{Bound}
 use native.Mathlib.Omega.{arith}
 use borrow.Author.Tests.{eq-eqb, ne-eqb}
 use Rattle.codec.specs.Answers.{whyNumber}
-use Rattle.codec.proofs.FormLaws.{asked, unasked, valued, unvalued, finished, found-below, refusing, giving, faulty}
+use Rattle.codec.proofs.FormLaws.{Finds, asked, unasked, valued, unvalued, finished, found-below, refusing, giving, faulty}
 use Rattle.bounds.specs.Bounds.{differForm}
 use borrow.Author.Needs.{needs}
 use Rattle.bounds.proofs.reader.read_differ.Statement.{statement}
 use Rattle.bounds.proofs.reader.read_differ.Tie as tie
+
+-- the clocks x and y are one: a fault of y
+one-clock : {s : List ℕ} {x y : ℕ} (F : Form Bound) → x ≡ y
+    → Finds (cond (eqb x y) fault F) s (refused (refusalNumber Model))
+one-clock F e = rw (eq-eqb _ _ e) faulty
+
+-- they are two: the form goes on
+two-clocks : {F : Form Bound} {s : List ℕ} {g : Got Bound} {x y : ℕ} → ¬ (x ≡ y) → Finds F s g
+    → Finds (cond (eqb x y) fault F) s g
+two-clocks n f = rw (ne-eqb _ _ n) f
 
 read-below-requires : tie.Need-read-below-requires
 read-below-requires c κs = search needs
@@ -69,7 +88,7 @@ returns-3 c =
     (c .before .before .before .before .before .before .before .a .given .1) in
     let y = valued (c .before .before .before .before .before .read-below2 .ensures)
     (c .before .before .before .b .given .1) in
-    refusing (asked x (asked y (rw (eq-eqb _ _ (c .before .if1 .taken)) faulty))) refl (c .refused-bound3 .ensures)
+    refusing (asked x (asked y (one-clock _ (c .before .if1 .taken)))) refl (c .refused-bound3 .ensures)
 
 read-below-requires-3 : tie.Need-read-below-requires-3
 read-below-requires-3 c κs = search needs
@@ -100,7 +119,7 @@ returns-4 c =
     let k = unvalued (c .before .before .before .before .read-below3 .ensures)
     (c .before .before .enum-told3 .given .1) in
     refusing (asked x
-    (asked y (rw (ne-eqb _ _ (c .before .before .before .before .before .if1 .left)) (unasked k)))) why
+    (asked y (two-clocks (c .before .before .before .before .before .if1 .left) (unasked k)))) why
     (c .refused-bound4 .ensures)
 
 unfold-requires : tie.Need-unfold-requires
@@ -120,7 +139,7 @@ returns-5 c =
     let k = valued (c .before .before .before .before .read-below3 .ensures) (c .before .before .d .given .1) in
     rw (same-word _ (c .«unfold» .ok), c .«unfold» .ensures)
     (giving (asked x
-    (asked y (rw (ne-eqb _ _ (c .before .before .before .before .before .if1 .left)) (asked k finished)))))
+    (asked y (two-clocks (c .before .before .before .before .before .if1 .left) (asked k finished)))))
 
 pub read-differ-spec : {M : Type 1} → statement M
 read-differ-spec =

@@ -1,11 +1,9 @@
 use mathlib.Core.Path.{sym, _∙_, subst}
 use mathlib.Core.List.{map}
-use Prim.Native.Nat.{ℕ, _+_, _*_, _/_, _≤_, _<_, _-_}
+use Prim.Native.Nat.{ℕ, _+_, _*_, _≤_, _<_, _-_}
 use native.Mathlib.Nat.{le-antisymm}
 use native.Mathlib.Numerals.{add-one as plus-one}
 use native.Mathlib.Omega.{arith}
-use mathlib.Core.List.{List}
-use lib.IntN.{ℤ}
 use lib.ListN.{length, take}
 use Rattle.algebra.specs.Vectors.{vectors, count}
 use Rattle.making.specs.Change.{changedBy}
@@ -14,6 +12,7 @@ use Rattle.sets.proofs.RowLaws.{row-inside, row-few, part-is, part-long}
 use Rattle.sets.proofs.FallLaws.{each-part}
 use Rattle.making.proofs.BuildLaws.{adding-start, adding-next, adding-done, room-next}
 use Rattle.making.proofs.BuildLaws.{room-few, step-vector, steps-count}
+use Rattle.making.proofs.HalfLaws.{uncounted}
 use borrow.Author.Needs.{needs}
 use Rattle.making.proofs.build.each.Statement.{statement}
 use Rattle.making.proofs.build.each.Tie as tie
@@ -40,10 +39,6 @@ loop-holds c = (
 mul-at : tie.Need-mul-at Inv-loop μ-loop
 mul-at c = omega (arith, c .before .before .good, row-inside (c .before .loop .i) _ _ (c .loop-test .taken))
 
--- the number of vectors, as the rule counts them
-few : (n : ℕ) (l : List ℤ) (i : ℕ) → i < length l / (n + 1) → i < count n l
-few n l i h = subst (λ (w : ℕ). i < length l / w) (plus-one n) h
-
 add-one : tie.Need-add-one Inv-loop μ-loop
 add-one c =
     let s = c .before .before .before in
@@ -51,7 +46,7 @@ add-one c =
     omega (
       arith,
       room-few (s .args .n) (s .args .k) (c .before .before .loop .i) _ _
-          (few (s .args .n) (s .args .list .now) _ (c .before .loop-test .taken)) (p .room),
+          (uncounted (s .args .n) (s .args .list .now) _ (c .before .loop-test .taken)) (p .room),
       s .good,
     )
 
@@ -97,7 +92,7 @@ one-requires c κs =
       record {
         room = rw (l .inv .1 .long)
             (room-next (s .args .n) (s .args .k) (l .i) _ _
-            (few (s .args .n) (s .args .list .now) _ (c .before .before .loop-test .taken)) (p .room));
+            (uncounted (s .args .n) (s .args .list .now) _ (c .before .before .loop-test .taken)) (p .room));
       },
     )
 
