@@ -35,13 +35,9 @@ use Rattle.making.proofs.Existence.{canonical-made}
 use Rattle.runs.specs.Models.{Bound, BoundLimits}
 use Rattle.runs.specs.Table.{halfOf}
 use Rattle.runs.specs.Rule.{Step, made, stop, fitted, cut, delayed, resetTo0, included, isYes}
+use Rattle.runs.specs.Shown.{shown}
 use Rattle.runs.proofs.TableLaws.{half-long, half-limits}
 use Rattle.runs.proofs.ProperLists.{Proper, words-count}
-
--- what a call that makes a set answers, and its area, when its step answers so
-abbrev pub shown : ℕ → List ℤ → Step → Result
-shown n area (made t) = record { made = Vectors (count n t); area = t ++ drop (length t) area }
-shown n area (stop e) = refusedBy (Refused e) area
 
 finished-shown : (n : ℕ) (L : List Vector) (area : List ℤ)
     → finished n (canonicalOf n L) area ≡ shown n area (fitted n (canonicalOf n L))

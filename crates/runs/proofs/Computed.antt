@@ -20,7 +20,7 @@ use Rattle.making.specs.Clean.{canonicalOf}
 use Rattle.making.specs.Rules.{rangeOk}
 use Rattle.runs.specs.Models.{Model, Edge, Bound, clockAtMost, clockAtLeast, differenceAtMost, halfSpace}
 use Rattle.runs.specs.Verdicts.{Answer, reached, never, open-to, refused}
-use Rattle.runs.specs.Rule.{fitted, cut, delayed, resetTo0, included, cutAll, resetAll, enter, candidate}
+use Rattle.runs.specs.Rule.{fitted, cut, delayed, resetTo0, included, cutAll, resetAll, entering, following}
 use Rattle.runs.specs.Rule.{pathsOn, pathOf, lastPath, inTurn, test, keep, judge, tryEdge, expand, layer, layers}
 use Rattle.runs.specs.Rule.{walkTo, walkOf, answerOf, keptBy, stateAt, made, stop}
 use Rattle.runs.specs.Rule
@@ -126,7 +126,7 @@ Computes (l ∷ ls) = (answerOf (l .model .depth) (walkOf (l .model) (l .room)) 
 
 -- the rule computes each line
 pub computed : Computes table
-unfolding fitted cut delayed resetTo0 included cutAll resetAll enter candidate Rule.covered
+unfolding fitted cut delayed resetTo0 included cutAll resetAll entering following Rule.covered
     pathsOn pathOf lastPath inTurn test keep judge tryEdge expand layer layers walkTo walkOf answerOf
     rangeOk tryOne cleanFrom cleanFlags kept lowerFrom earlier insert sorted cleaned canonicalOf
     masked flat attained hasPoint covers covered includedChecked includedOf
@@ -175,7 +175,7 @@ pub second-state : stateAt (keptBy (walkOf (example 10 8) 64)) 1 ≡ record {
   edge = pos 1;
   list = pos 0 ∷ pos 0 ∷ pos 0 ∷ pos 6 ∷ pos 6 ∷ pos 0 ∷ pos 10 ∷ pos 6 ∷ pos 0 ∷ [];
 }
-unfolding fitted cut delayed resetTo0 included cutAll resetAll enter candidate Rule.covered
+unfolding fitted cut delayed resetTo0 included cutAll resetAll entering following Rule.covered
     pathsOn pathOf lastPath inTurn test keep judge tryEdge expand layer layers walkTo walkOf answerOf
     rangeOk tryOne cleanFrom cleanFlags kept lowerFrom earlier insert sorted cleaned canonicalOf
     masked flat attained hasPoint covers covered includedChecked includedOf

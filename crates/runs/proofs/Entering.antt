@@ -1,4 +1,4 @@
--- Entering a location and crossing an edge, as the rule does them: what they do to clock values.
+-- Entering a location and following an edge, as the rule does them: what they do to clock values.
 use mathlib.Core.List.{List, [], _∷_}
 use mathlib.Core.Logic.{_↔_}
 use mathlib.Core.Path.{_≡_, refl, sym, _∙_, ap, subst, subst₂}
@@ -23,7 +23,7 @@ use Rattle.runs.specs.Models.{All, Rising, BoundLimits, BoundsLimits, Ed
 use Rattle.runs.specs.Runs.{Values, numbers, later, zeroed, Holds, AllHold, Fits, Run, wait}
 use Rattle.runs.specs.Table.{halfOf}
 use Rattle.runs.specs.Closure.{Has, Entered, Crossed}
-use Rattle.runs.specs.Rule.{Step, made, stop, _then_, cut, delayed, resetTo0, cutAll, resetAll, enter, candidate}
+use Rattle.runs.specs.Rule.{Step, made, stop, _then_, cut, delayed, resetTo0, cutAll, resetAll, entering, following, enter, candidate}
 use Rattle.runs.proofs.TableLaws.{table-means}
 use Rattle.runs.proofs.ProperLists.{Proper}
 use Rattle.runs.proofs.StepLaws.{later-numbers, cut-gives, delayed-gives, reset-gives}
@@ -170,7 +170,7 @@ module _ (S : System) (limits : SystemLimits S) where
 
   -- entering, as the rule does it
   pub enter-yields : (q : ℕ) (l t : List ℤ) → Proper n l → enter S q l ≡ made t → Yields n t (Entered S q (Has n l))
-  unfolding enter
+  unfolding entering
   enter-yields q l t p e =
       let (y, f, g) = then-made (cutAll n (invariant S q) l then delayed n) (cutAll n (invariant S q)) t e in
       let (x, a, b) = then-made (cutAll n (invariant S q) l) (delayed n) y f in
@@ -194,11 +194,11 @@ module _ (S : System) (limits : SystemLimits S) where
   -- a candidate, as the rule forms it
   pub candidate-yields : (e : ℕ) (l t : List ℤ) → Proper n l → candidate S (edge S e) l ≡ made t
       → Yields n t (Entered S (edge S e .destination) (Crossed S (edge S e) (Has n l)))
-  unfolding candidate
+  unfolding following
   candidate-yields e l t p c =
       let E = edge S e in
       let q = E .destination in
-      let (y, f, g) = then-made (cutAll n (E .guard) l then resetAll n (E .resets)) (enter S q) t c in
+      let (y, f, g) = then-made (cutAll n (E .guard) l then resetAll n (E .resets)) (entering n (invariant S q)) t c in
       let (x, a, b) = then-made (cutAll n (E .guard) l) (resetAll n (E .resets)) y f in
       let one = cuts-yield n (E .guard) (edge-limits e .guard .each) l x p a in
       let two = resets-yield n 0 (E .resets) (edge-limits e .resets) x y (one .proper) b in

@@ -77,14 +77,21 @@ unfoldable pub resetAll : ℕ → List ℕ → List ℤ → Step
 resetAll n [] l = made l
 resetAll n (i ∷ is) l = resetTo0 n i l then resetAll n is
 
--- entering a location: intersect with its invariant, delay, intersect with the invariant again
-unfoldable pub enter : System → ℕ → List ℤ → Step
-enter S q l = cutAll (S .clocks) (invariant S q) l then delayed (S .clocks) then cutAll (S .clocks) (invariant S q)
+-- entering a location with its invariant: intersect with it, delay, intersect with it again
+unfoldable pub entering : ℕ → List Bound → List ℤ → Step
+entering n inv l = cutAll n inv l then delayed n then cutAll n inv
 
--- a candidate over an edge: guard, resets, enter
-unfoldable pub candidate : System → Edge → List ℤ → Step
-candidate S e l =
-    cutAll (S .clocks) (e .guard) l then resetAll (S .clocks) (e .resets) then enter S (e .destination)
+-- over an edge to a location with its invariant: guard, resets, enter
+unfoldable pub following : ℕ → Edge → List Bound → List ℤ → Step
+following n e inv l = cutAll n (e .guard) l then resetAll n (e .resets) then entering n inv
+
+-- entering location q
+abbrev pub enter : System → ℕ → List ℤ → Step
+enter S q l = entering (S .clocks) (invariant S q) l
+
+-- a candidate over an edge
+abbrev pub candidate : System → Edge → List ℤ → Step
+candidate S e l = following (S .clocks) e (invariant S (e .destination)) l
 
 -- ---- states
 -- a kept state: its location, its parent's number and the edge from there, and its list. State 0 has −1 for both
