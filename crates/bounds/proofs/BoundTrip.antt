@@ -56,7 +56,7 @@ use Rattle.bounds.proofs.LimitLaws.{same-bound, abs-small, fold-small, 
 use Rattle.bounds.proofs.EntryTrip.{unfold-small, codes-entry}
 
 -- ---- integers in limits
-nonneg : (k : ℤ) → pos 0 ⊑ k → pos (natAbs k) ≡ k
+pub nonneg : (k : ℤ) → pos 0 ⊑ k → pos (natAbs k) ≡ k
 nonneg (pos n) h = refl
 nonneg (negsuc n) h = absurd (omega (arith, h .le))
 

@@ -6,3 +6,4 @@ pub mod BlankLaws
 pub mod ReadLaws
 pub mod StoreLaws
 pub mod Theorems
+pub mod PlainLimits

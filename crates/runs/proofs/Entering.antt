@@ -18,7 +18,7 @@ use Rattle.algebra.proofs.Delay
 use Rattle.algebra.proofs.Convexity.{convex}
 use Rattle.algebra.proofs.Lists.{spot, spot-last, spot-clock}
 use Rattle.algebra.proofs.Made.{satisfies-iff}
-use Rattle.runs.specs.Models.{Bound, System, invariant, noEdge, edge}
+use Rattle.runs.specs.Models.{Bound, Edge, System, invariant, noEdge, edge}
 use Rattle.runs.specs.Models.{All, Rising, BoundLimits, BoundsLimits, EdgeLimits, SystemLimits}
 use Rattle.runs.specs.Runs.{Values, numbers, later, zeroed, Holds, AllHold, Fits, Run, wait}
 use Rattle.runs.specs.Table.{halfOf}
@@ -145,6 +145,24 @@ module _ (n : ℕ) where
           λ s. r .exact v .1 (set (s .0) i 0, m (set (s .0) i 0) .1 (s .0, s .1, refl), s .2),
         );
       }
+
+  -- what entering makes of a proper list is proper, and so is a candidate
+  pub entering-proper : (inv : List Bound) → All (BoundLimits n) inv → (l t : List ℤ) → Proper n l
+      → entering n inv l ≡ made t → Proper n t
+  unfolding entering
+  entering-proper inv h l t p e =
+      let (y, f, g) = then-made (cutAll n inv l then delayed n) (cutAll n inv) t e in
+      let (x, a, b) = then-made (cutAll n inv l) (delayed n) y f in
+      cuts-yield inv h y t (delayed-gives n x (cuts-yield inv h l x p a .proper) y b .proper) g .proper
+
+  pub following-proper : (e : Edge) → All (BoundLimits n) (e .guard) → Rising 0 n (e .resets) → (inv : List Bound)
+      → All (BoundLimits n) inv → (l t : List ℤ) → Proper n l → following n e inv l ≡ made t → Proper n t
+  unfolding following
+  following-proper e g r inv h l t p q =
+      let (y, f, c) = then-made (cutAll n (e .guard) l then resetAll n (e .resets)) (entering n inv) t q in
+      let (x, a, b) = then-made (cutAll n (e .guard) l) (resetAll n (e .resets)) y f in
+      let one = cuts-yield (e .guard) g l x p a .proper in
+      entering-proper inv h y t (resets-yield 0 (e .resets) r x y one b .proper) c
 
 -- ---- the limits of what a system has
 all-at : {A : Type 0} (P : A → Type 0) (l : List A) (d : A) → All P l → P d → (i : ℕ) → P (getD l i d)

@@ -1,0 +1,4 @@
+pub mod RecordLaws
+pub mod KeepLaws
+pub mod CoverLaws
+pub mod HoldingLaws

@@ -1,0 +1,5 @@
+pub mod WordText
+pub mod NumberText
+pub mod HeadText
+pub mod TextSize
+pub mod Computed

@@ -1,0 +1,4 @@
+pub mod FrontLaws
+pub mod Calls
+pub mod Going
+pub mod Halving

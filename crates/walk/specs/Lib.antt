@@ -1,0 +1,2 @@
+pub mod Control
+pub mod Walks
