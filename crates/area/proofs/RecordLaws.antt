@@ -10,6 +10,8 @@ use lib.Dec.{ltb}
 use lib.IntN.{ℤ, pos}
 use lib.ListN.{length, getD, take, drop, replicate, length-append, length-drop, length-replicate, take-append-drop}
 use lib.Seq.{getD-take, getD-drop, drop-drop, take-at, length-take-le}
+use lib.Arith.{digits-div}
+use lib.Ieee.Nearest.{div-mono}
 use lib.Signed.{mag}
 use mir.Syntax.{w32}
 use mir.Val.{toZ, ofZ}
@@ -171,3 +173,30 @@ pub room-fits : (n : ℕ) (area : List ℤ) → roomOf n area * recordSize n ≤
 unfolding roomOf
 room-fits n area = fits-by _ (recordSize n) (length area)
     (below-by (ltb (length area / recordSize n) 64) (length area / recordSize n) refl)
+
+-- there is room for a state exactly if the area has a record
+above-by : (b : Bool) (a : ℕ) → ltb a 64 ≡ b → 1 ≤ a → 1 ≤ cond b a 64
+above-by true a e h = h
+above-by false a e h = omega arith
+
+pub room-one : (n : ℕ) (area : List ℤ) → recordSize n ≤ length area → 1 ≤ roomOf n area
+unfolding roomOf
+room-one n area h = above-by (ltb (length area / recordSize n) 64) (length area / recordSize n) refl
+    (omega (arith, one, div-mono (1 * size + 0) size (length area) size some some more))
+  where
+    size : ℕ
+    size = recordSize n
+
+    some : 0 < size
+    some = omega (arith, size-is n)
+
+    one : (1 * size + 0) / size ≡ 1
+    one = digits-div 1 {m = size} {r = 0} some
+
+    more : (1 * size + 0) * size ≤ length area * size
+    more = mul-le-mul-right size (omega (arith, h))
+
+pub room-some : (n : ℕ) (area : List ℤ) → 1 ≤ roomOf n area → recordSize n ≤ length area
+room-some n area h =
+    let g : 1 * recordSize n ≤ roomOf n area * recordSize n = mul-le-mul-right (recordSize n) h in
+    omega (arith, g, room-fits n area)

@@ -5,3 +5,4 @@ pub mod LayerLaws
 pub mod BeginLaws
 pub mod Trails
 pub mod WalkLaws
+pub mod Theorems

@@ -23,6 +23,7 @@ use Rattle.runs.specs.Verdicts.{Answer, reached, never, open-to, refused, answe
 use Rattle.runs.specs.declared.Verdict.{Verdict}
 use Rattle.runs.specs.declared.Verdict.the-variants.{Reached, Never, Open, Refused}
 use Rattle.runs.proofs.Verdict.{the-type as the-verdict}
+use Rattle.runs.proofs.Stable.{Final}
 use Rattle.runs.proofs.Settled.{verdict-settled}
 use Rattle.runs.proofs.Counts.{Orderly, EndsOrderly, walk-orderly}
 use Rattle.runs.proofs.Meaning.{walk-means, walk-sound}
@@ -112,22 +113,33 @@ module _ (m : Model) (limits : ModelLimits m) where
     whole o e i l = subst (λ (o : Ending). AllWhole n (keptBy o)) e
         (λ i l. walk-sound (plain m) (model-plain m limits) room i l .proper .whole) i l
 
+    -- the path that the area shows is that of the state kept last
+    pub ending-path : (o : Ending) → walkOf (plain m) room ≡ o → Final o
+        → pathIn n (areaAfter n o area) (keptSaid (answerOf (m .depth) o)) ≡ lastPath (keptBy o)
+    unfolding answerOf areaAfter walkOf
+    ending-path o e f = by o (whole o e) (subst (EndsOrderly S room) e (walk-orderly S room (m .depth))) f
+      where
+        by : (o : Ending) → AllWhole n (keptBy o) → EndsOrderly S room o → Final o
+            → pathIn n (areaAfter n o area) (keptSaid (answerOf (m .depth) o)) ≡ lastPath (keptBy o)
+        by (ends-reached w) u q f = path-shown n (w .kept) (q .linked) u area
+        by (ends-never w) u q f = path-shown n (w .kept) (q .linked) u area
+        by (ends-open w) u q f = absurd f
+        by (ends-refused x) u q f = absurd f
+
     -- the path that the area shows beside the answer
     shown-means : (o : Ending) → walkOf (plain m) room ≡ o
         → Means S (pathIn n (areaAfter n o area) (keptSaid (answerOf (m .depth) o))) (answerOf (m .depth) o)
-    unfolding answerOf areaAfter walkOf
-    shown-means o e = by o (whole o e) (subst (λ (o : Ending). Means S (lastPath (keptBy o)) (answerOf (m .depth) o)) e
+    unfolding answerOf
+    shown-means o e = by o e (subst (λ (o : Ending). Means S (lastPath (keptBy o)) (answerOf (m .depth) o)) e
         (walk-means (plain m) (model-plain m limits) room))
-        (subst (EndsOrderly S room) e (walk-orderly S room (m .depth)))
       where
-        by : (o : Ending) → AllWhole n (keptBy o) → Means S (lastPath (keptBy o)) (answerOf (m .depth) o)
-            → EndsOrderly S room o
+        by : (o : Ending) → walkOf (plain m) room ≡ o → Means S (lastPath (keptBy o)) (answerOf (m .depth) o)
             → Means S (pathIn n (areaAfter n o area) (keptSaid (answerOf (m .depth) o))) (answerOf (m .depth) o)
-        by (ends-reached w) u h q = subst (λ (p : List ℕ). SaysReached S p (length (lastPath (w .kept))))
-            (sym (path-shown n (w .kept) (q .linked) u area)) h
-        by (ends-never w) u h q = h
-        by (ends-open w) u h q = h
-        by (ends-refused x) u h q = tt
+        by (ends-reached w) e h = subst (λ (p : List ℕ). SaysReached S p (length (lastPath (w .kept))))
+            (sym (ending-path (ends-reached w) e tt)) h
+        by (ends-never w) e h = h
+        by (ends-open w) e h = h
+        by (ends-refused x) e h = tt
 
   -- the answer and the area of the ending
   module _ (before : List ℤ) (big : recordSize n ≤ length before) where

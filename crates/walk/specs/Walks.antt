@@ -38,6 +38,21 @@ walkedOf (value m) area =
     cond (ltb (length area) (recordSize (m .clocks)))
     (record { answer = refused (refusalNumber Shape); area = area }) walked
 
+-- the model with another depth
+abbrev pub withDepth : Model → ℕ → Model
+withDepth m depth =
+    record {
+      clocks = m .clocks;
+      locations = m .locations;
+      edges = m .edges;
+      initial = m .initial;
+      invariants = m .invariants;
+      steps = m .steps;
+      target = m .target;
+      list = m .list;
+      depth = depth;
+    }
+
 -- ---- the path that a caller reads off the area
 -- word j of record i
 abbrev pub wordAt : ℕ → List ℤ → ℕ → ℕ → ℤ
