@@ -2,3 +2,4 @@ pub mod RecordLaws
 pub mod KeepLaws
 pub mod CoverLaws
 pub mod HoldingLaws
+pub mod Computed

@@ -1,7 +1,11 @@
 -- All rows are right: the rule of each call computes the answer and the area expected, and the rule meets the contract.
+use mathlib.Core.Bool.{Bool, true, false, _&&_}
 use mathlib.Core.List.{List, [], _∷_}
 use mathlib.Core.Path.{_≡_, refl, sym, subst}
+use Prim.Native.Nat.{ℕ}
+use lib.Dec.{ltb}
 use lib.IntN.{ℤ}
+use borrow.Author.Tests.{ltb-true}
 use Rattle.numbers.specs.Numbers.{_⊕_, ⨁}
 use Rattle.numbers.specs.Words.{number}
 use Rattle.numbers.specs.Places.{sideOf}
@@ -22,12 +26,34 @@ use Rattle.making.specs.Rules.{Result, rangeOk, finished, shapeOk, intersectChe
 use Rattle.making.specs.Rules.{delayOf, resetChecked, resetOf, hullChecked, hullOf}
 use Rattle.making.proofs.Rules.{intersect-meets, delay-meets, reset-meets, hull-meets}
 use Rattle.codec.specs.Number.{bytesOf, numberIn}
-use Rattle.examples.specs.Rows.{Row, contains, included, intersect, delay, reset, hull, in-bytes, no-number, fold}
+use Rattle.codec.specs.Form.{readIn, _>>=_, many}
+use Rattle.codec.specs.Arrays.{AreBytes}
+use Rattle.bounds.specs.Bounds.{entryForm, plainForm, differForm, halfForm, boundForm, boundsForm}
+use Rattle.model.specs.Models.{headForm, edgeForm, goalForm, modelForm}
+use Rattle.model.specs.Answers.{readOf}
+use Rattle.runs.specs.Rule.{fitted, cut, delayed, resetTo0, cutAll, resetAll, entering, following, pathsOn, pathOf}
+use Rattle.runs.specs.Rule.{lastPath, inTurn, test, keep, judge, tryEdge, expand, layer, layers, walkTo, walkOf, answerOf}
+use Rattle.runs.specs.Rule
+use Rattle.runs.specs.Verdicts.{answerBy}
+use Rattle.area.specs.Area.{recordSize, recordOf, recordsOf, holding, roomOf, areaAfter}
+use Rattle.runs.proofs.Meaning.{and-true}
+use Rattle.walk.specs.Walks.{walkedOf}
+use Rattle.walk.proofs.Theorems.{walk-meets}
+use Rattle.examples.specs.Rows.{Row, contains, included, intersect, delay, reset, hull, in-bytes, no-number, fold, walk}
 use Rattle.examples.specs.Rows.{Right, AllRight, rows}
 
 -- the result of a rule is the answer and the area expected
 abbrev Gives : Result → Made → List ℤ → Type 0
 Gives result answer after = (answer ≡ result .made) × (after ≡ result .area)
+
+-- every number of a list is a byte
+abbrev allBytes : List ℕ → Bool
+allBytes [] = true
+allBytes (b ∷ s) = ltb b 256 && allBytes s
+
+are-bytes : (s : List ℕ) → allBytes s ≡ true → AreBytes s
+are-bytes [] e = tt
+are-bytes (b ∷ s) e = let (h, t) = and-true (ltb b 256) (allBytes s) e in (ltb-true b 256 h, are-bytes s t)
 
 -- the rule gives what is expected
 abbrev Computes : Row → Type 0
@@ -40,6 +66,8 @@ Computes (hull n one other before answer after) = Gives (hullOf n one other befo
 Computes (in-bytes v bytes) = Right (in-bytes v bytes)
 Computes (no-number bytes refusal) = Right (no-number bytes refusal)
 Computes (fold k v) = Right (fold k v)
+Computes (walk bytes before verdict after) =
+    (allBytes bytes ≡ true) × (record { answer = answerBy verdict; area = after } ≡ walkedOf (readOf bytes) before)
 
 -- what holds of a result holds of the answer and the area that it gives
 given : (P : Made → List ℤ → Type 0) (result : Result) (answer : Made) (after : List ℤ)
@@ -65,6 +93,7 @@ right (hull n one other before answer after) e =
 right (in-bytes v bytes) e = e
 right (no-number bytes refusal) e = e
 right (fold k v) e = e
+right (walk bytes before verdict after) e = walk-meets bytes (are-bytes bytes (e .0)) before verdict after (e .1)
 
 -- of every row of a list
 abbrev AllCompute : List Row → Type 0
@@ -88,7 +117,11 @@ unfolding rows containsOf containsChecked includedOf includedChecked inside hasP
     intersectChecked delayOf delayChecked resetOf resetChecked hullOf hullChecked shapeOk finished rangeOk canonicalOf
     cleaned sorted insert earlier lowerFrom kept cleanFlags cleanFrom tryOne masked normal hullList withPoint somePoint
     intersectList crossings crossing satisfies sideAt sideOf each vectors pieces words tab
-    numberIn bytesOf
+    numberIn bytesOf walkedOf readOf readIn _>>=_ many headForm edgeForm goalForm modelForm entryForm plainForm differForm
+    halfForm boundForm boundsForm recordSize recordOf recordsOf holding roomOf areaAfter
+    fitted cut delayed resetTo0 Rule.included cutAll resetAll entering following Rule.covered pathsOn pathOf lastPath inTurn
+    test keep judge tryEdge expand layer layers walkTo walkOf answerOf
 examples-right = all-right rows (
     (refl, refl) ▹ (refl, refl) ▹ (refl, refl) ▹ refl ▹ refl ▹ (refl, refl) ▹ refl ▹ refl ▹ (refl, refl) ▹ refl
-    ▹ (refl, refl) ▹ (refl, refl) ▹ (refl, refl) ▹ (refl, refl) ▹ (refl, refl) ▹ refl ▹ refl ▹ tt)
+    ▹ (refl, refl) ▹ (refl, refl) ▹ (refl, refl) ▹ (refl, refl) ▹ (refl, refl)
+    ▹ (refl, refl) ▹ (refl, refl) ▹ (refl, refl) ▹ refl ▹ refl ▹ tt)

@@ -13,10 +13,14 @@ use Rattle.sets.specs.declared.Told.the-variants.{Yes, No}
 use Rattle.making.specs.Calls.{Intersects, Delays, Resets, Hulls}
 use Rattle.making.specs.declared.Made.{Made}
 use Rattle.making.specs.declared.Made.the-variants.{Vectors, Refused}
+use Rattle.runs.specs.declared.Verdict.{Verdict}
+use Rattle.runs.specs.declared.Verdict.the-variants.{Reached, Never, Open}
+use Rattle.walk.specs.Walks.{Walks}
 use Rattle.codec.specs.Number.{got, refused, bytesOf, numberIn, folded}
 
 -- a call with its arguments, then the answer; where a set is made, the area, the answer and the area afterwards;
--- a number and its bytes; bytes that are no number, and the refusal; a signed number and what it is folded to
+-- a number and its bytes; bytes that are no number, and the refusal; a signed number and what it is folded to;
+-- a model's bytes, the state area, the verdict of the walk and the area afterwards
 pub data Row : Type 0 where
   contains : ℕ → List ℤ → List ℤ → Told → Row
   included : ℕ → List ℤ → List ℤ → Told → Row
@@ -27,6 +31,7 @@ pub data Row : Type 0 where
   in-bytes : ℕ → List ℕ → Row
   no-number : List ℕ → ℕ → Row
   fold : ℤ → ℕ → Row
+  walk : List ℕ → List ℤ → Verdict → List ℤ → Row
 
 -- a row is right if the call's contract allows the answer and the area afterwards
 abbrev pub Right : Row → Type 0
@@ -39,6 +44,7 @@ Right (hull n one other before answer after) = Hulls n one other before answer a
 Right (in-bytes v bytes) = (bytesOf v ≡ bytes) × (numberIn bytes ≡ got v [])
 Right (no-number bytes refusal) = numberIn bytes ≡ refused refusal
 Right (fold k v) = folded k ≡ v
+Right (walk bytes before verdict after) = Walks bytes before verdict after
 
 -- every row of a list is right
 abbrev pub AllRight : List Row → Type 0
@@ -92,6 +98,23 @@ late = mark ∷ mark ∷ pos 2 ∷ pos 0 ∷ mark ∷ mark ∷ []
 abbrev above : List ℤ
 above = mark ∷ mark ∷ pos 1 ∷ mark ∷ pos 0 ∷ mark ∷ []
 
+-- ---- the worked model
+-- its bytes, with the least value of clock 0 in the target list, and the depth
+abbrev model : ℕ → ℕ → List ℕ
+model k depth =
+    2 ∷ 2 ∷ 2 ∷ 0 ∷ 1 ∷ 0 ∷ 0 ∷ 4 ∷ 1 ∷ 0 ∷ 1 ∷ 6 ∷ 0 ∷ 0 ∷ 1 ∷ 1 ∷ 0 ∷ 2 ∷ 3 ∷ 0 ∷ 1 ∷ 0 ∷ 2 ∷ 1 ∷ 1 ∷ 1 ∷ 0 ∷ k ∷ depth ∷ []
+
+-- a state area of two records of 100 words and 50 words more, each 7
+abbrev states : List ℤ
+states = replicate 250 (pos 7)
+
+-- with both states kept: points (0,0), (4,4) in location 0; points (0,0), (6,6), (10,6) in location 1, from state 0 over edge 1
+abbrev bothKept : List ℤ
+bothKept =
+    pos 0 ∷ negsuc 0 ∷ negsuc 0 ∷ pos 2 ∷ pos 0 ∷ pos 0 ∷ pos 0 ∷ pos 4 ∷ pos 4 ∷ pos 0 ∷ replicate 90 (pos 0)
+    ++ (pos 1 ∷ pos 0 ∷ pos 1 ∷ pos 3 ∷ pos 0 ∷ pos 0 ∷ pos 0 ∷ pos 6 ∷ pos 6 ∷ pos 0 ∷ pos 10 ∷ pos 6 ∷ pos 0 ∷ replicate 87 (pos 0))
+    ++ replicate 50 (pos 7)
+
 -- the table
 unfoldable pub rows : List Row
 rows =
@@ -115,6 +138,10 @@ rows =
     -- 8: point (1000000,0) with clock 1 ≥ 1: RANGE with ray (0,−1000000); with ray (0,0), point (1000000,1)
     ∷ intersect 2 (far 0 (negsuc 999999)) above (area 2) (Refused Range) (area 2)
     ∷ intersect 2 (far 0 (pos 0)) above (area 2) (Vectors 2) (areaWith 2 (far 1 (pos 0)))
+    -- 10: the worked model; with 11 for 10; then depth 1
+    ∷ walk (model 10 8) states (Reached 1 2 2) bothKept
+    ∷ walk (model 11 8) states (Never 2 2) bothKept
+    ∷ walk (model 11 1) states (Open 1 2 2) bothKept
     -- 11: numbers as bytes
     ∷ in-bytes 127 (127 ∷ [])
     ∷ in-bytes 128 (128 ∷ 1 ∷ [])

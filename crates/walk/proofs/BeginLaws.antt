@@ -26,6 +26,7 @@ use Rattle.runs.proofs.Entering.{entering-proper}
 use Rattle.bounds.specs.declared.Bounds.{Bounds}
 use Rattle.model.specs.declared.Model.{Model}
 use Rattle.model.specs.Limits.{ModelLimits}
+use Rattle.model.specs.Models.{pastBounds}
 use Rattle.model.specs.Plain.{plain, boundsOf}
 use Rattle.model.proofs.PlainLimits.{bounds-plain, invariant-at, invariant-fits}
 use Rattle.steps.specs.Steps.{Starts}
@@ -33,7 +34,7 @@ use Rattle.area.specs.Area.{recordsOf, holding}
 use Rattle.area.specs.Records.{statesIn}
 use Rattle.walk.specs.Control.{tally, Ready, Finds, stoppedBy, endedBy}
 use Rattle.walk.proofs.KeepingLaws.{stays}
-use Rattle.walk.proofs.FormLaws.{Gave, shows-made, shows-refused, pastBounds}
+use Rattle.walk.proofs.FormLaws.{Gave, shows-made, shows-refused}
 use Rattle.walk.proofs.LayerLaws.{finds-never, finds-refused}
 
 zero-of : (k n : ℕ) → k * (n + 1) ≡ 0 → k ≡ 0

@@ -132,13 +132,6 @@ module _ (n i : ℕ) (area : List ℤ) (p : Place) (at : Places n area i p) (h :
         grows = tt;
       })
 
--- ---- what code takes for an item that is not there
-abbrev pub pastBounds : Bounds
-pastBounds = record { count = 0; items = [] }
-
-abbrev pub pastEdge : EdgeRecord
-pastEdge = record { source = 0; destination = 0; guard = pastBounds; resets = 0 }
-
 -- ---- the rule looks at the clocks and the target only
 module _ (m : Model) (room : ℕ) where
   abbrev S : System

@@ -11,22 +11,23 @@ use lib.ListN.{length}
 use borrow.Author.Tests.{lt-ltb, le-ltb}
 use Rattle.numbers.specs.Refusals.{refusalNumber}
 use Rattle.numbers.specs.declared.Refusal.the-variants.{Shape}
+use Rattle.codec.specs.Arrays.{AreBytes}
 use Rattle.runs.specs.Rule.{Ending, ends-reached, ends-never, ends-open, ends-refused, keptBy, lastPath, walkOf, answerOf}
-use Rattle.runs.specs.Verdicts.{Answer, reached, never, open-to, refused, answerBy}
+use Rattle.runs.specs.Verdicts.{Answer, reached, never, open-to, refused, answerBy, Means}
 use Rattle.runs.specs.declared.Verdict.{Verdict}
 use Rattle.runs.specs.declared.Verdict.the-variants.{Reached, Never, Open, Refused}
 use Rattle.runs.proofs.Counts.{EndsOrderly, walk-orderly}
 use Rattle.runs.proofs.Settled.{verdict-settled}
 use Rattle.runs.proofs.Stable.{Final, models-stable}
 use Rattle.model.specs.declared.Model.{Model}
-use Rattle.model.specs.Limits.{ModelLimits}
 use Rattle.model.specs.Answers.{value, readOf}
 use Rattle.model.specs.Plain.{plain}
 use Rattle.model.proofs.PlainLimits.{edges-many}
+use Rattle.model.proofs.Theorems.{read-written}
 use Rattle.area.specs.Area.{recordSize, roomOf, areaAfter}
 use Rattle.area.proofs.RecordLaws.{room-one, room-some}
 use Rattle.walk.specs.Walks.{Walked, endingOf, walkedOf, pathIn, keptSaid, withDepth, Walks}
-use Rattle.walk.proofs.WalkLaws.{ending-path}
+use Rattle.walk.proofs.WalkLaws.{ending-path, shown-means}
 
 -- ---- settled
 answers : {a b : Walked} → a ≡ b → a .answer ≡ b .answer
@@ -103,16 +104,36 @@ module _ (m : Model) (before : List ℤ) where
         by (Open d k t) c (ends-refused f) e = c
         by (Refused x) c (ends-refused f) e = c
 
+-- ---- the rule meets the contract
+pub walk-meets : (s : List ℕ) → AreBytes s → (before : List ℤ) (v : Verdict) (after : List ℤ)
+    → record { answer = answerBy v; area = after } ≡ walkedOf (readOf s) before → Walks s before v after
+walk-meets s bytes before v after rule = record {
+  rule = rule;
+  means = λ m read. by m read (decLt (length before) (recordSize (m .clocks)));
+}
+  where
+    at : (m : Model) → readOf s ≡ value m → record { answer = answerBy v; area = after } ≡ walkedOf (value m) before
+    at m read = rule ∙ ap (λ r. walkedOf r before) read
+
+    Meant : Model → Answer → List ℤ → Type 0
+    Meant m a after = Means (plain m .system) (pathIn (m .clocks) after (keptSaid a)) a
+
+    by : (m : Model) → readOf s ≡ value m → Dec (length before < recordSize (m .clocks)) → Meant m (answerBy v) after
+    by m read (yes h) = subst (λ (w : Walked). Meant m (w .answer) (w .area)) (sym (at m read ∙ small-walk m before h)) tt
+    by m read (no h) = subst (λ (w : Walked). Meant m (w .answer) (w .area))
+        (sym (at m read ∙ big-walk m before (omega (arith, h))))
+        (shown-means m (read-written s m bytes read .limits) (roomOf (m .clocks) before) before (endingOf m before) refl)
+
 -- ---- stable
 -- two calls whose models differ only in the depth, d ≤ d′, and whose areas have room r ≤ r′: where the first answers
 -- REACHED or NEVER, the second gives the same verdict with the same counts, and its area shows the same edges
-pub walk-stable : (s s′ : List ℕ) (m : Model) (depth : ℕ) → ModelLimits m → depth ≤ 200 → readOf s ≡ value m
+pub walk-stable : (s s′ : List ℕ) (m : Model) (depth : ℕ) → AreBytes s → AreBytes s′ → readOf s ≡ value m
     → readOf s′ ≡ value (withDepth m depth) → m .depth ≤ depth
     → (before before′ : List ℤ) → roomOf (m .clocks) before ≤ roomOf (m .clocks) before′
     → (v v′ : Verdict) (after after′ : List ℤ) → Walks s before v after → Walks s′ before′ v′ after′ → Certain v
     → (v′ ≡ v)
     × (pathIn (m .clocks) after′ (keptSaid (answerBy v′)) ≡ pathIn (m .clocks) after (keptSaid (answerBy v)))
-walk-stable s s′ m depth limits deep read read′ d before before′ room v v′ after after′ w w′ c =
+walk-stable s s′ m depth bytes bytes′ read read′ d before before′ room v v′ after after′ w w′ c =
     (verdict-settled v′ v answer, shown′ ∙ sym shown)
   where
     n : ℕ
@@ -138,30 +159,13 @@ walk-stable s s′ m depth limits deep read read′ d before before′ room v v�
         ∙ (models-stable (plain m) (plain m′) (roomOf n before) (roomOf n before′) refl d room certain .1
         ∙ sym (ended m before s read v after w big))
 
-    limits′ : ModelLimits m′
-    limits′ = record {
-      numbers = record {
-        some-clocks = limits .numbers .some-clocks;
-        clocks = limits .numbers .clocks;
-        some-locations = limits .numbers .some-locations;
-        locations = limits .numbers .locations;
-        edges = limits .numbers .edges;
-        initial = limits .numbers .initial;
-        target = limits .numbers .target;
-        depth = deep;
-      };
-      invariants = limits .invariants;
-      edges = limits .edges;
-      list = limits .list;
-    }
-
     shown : pathIn n after (keptSaid (answerBy v)) ≡ lastPath (keptBy (endingOf m before))
     shown = rw (left m before s read v after w big, ended m before s read v after w big)
-        (ending-path m limits (roomOf n before) before (endingOf m before) refl certain)
+        (ending-path m (read-written s m bytes read .limits) (roomOf n before) before (endingOf m before) refl certain)
 
     shown′ : pathIn n after′ (keptSaid (answerBy v′)) ≡ lastPath (keptBy (endingOf m before))
     shown′ = rw (left m′ before′ s′ read′ v′ after′ w′ big′, ended m′ before′ s′ read′ v′ after′ w′ big′)
-        (ending-path m′ limits′ (roomOf n before′) before′ (endingOf m′ before′) refl (subst Final (sym same) certain)
+        (ending-path m′ (read-written s′ m′ bytes′ read′ .limits) (roomOf n before′) before′ (endingOf m′ before′) refl (subst Final (sym same) certain)
         ∙ ap (λ (o : Ending). lastPath (keptBy o)) same)
 
 -- ---- the counts
@@ -173,18 +177,21 @@ triedSaid (open-to depth kept tried) = tried
 triedSaid (refused number) = 0
 
 -- tried is at most kept times the edges
-pub walk-counts : (s : List ℕ) (m : Model) → ModelLimits m → readOf s ≡ value m → (before : List ℤ) (v : Verdict)
+pub walk-counts : (s : List ℕ) (m : Model) → AreBytes s → readOf s ≡ value m → (before : List ℤ) (v : Verdict)
     (after : List ℤ) → Walks s before v after → triedSaid (answerBy v) ≤ keptSaid (answerBy v) * m .edges
 unfolding answerOf walkOf
-walk-counts s m limits read before v after w = by (decLt (length before) (recordSize (m .clocks)))
+walk-counts s m bytes read before v after w = by (decLt (length before) (recordSize (m .clocks)))
   where
+    many : length (plain m .system .edges) ≡ m .edges
+    many = edges-many m (read-written s m bytes read .limits)
+
     Counted : Answer → Type 0
     Counted a = triedSaid a ≤ keptSaid a * m .edges
 
     orderly : (o : Ending) → EndsOrderly (plain m .system) (roomOf (m .clocks) before) o → Counted (answerOf (m .depth) o)
-    orderly (ends-reached w) h = subst (λ (k : ℕ). w .tried ≤ length (w .kept) * k) (edges-many m limits) (h .tried)
-    orderly (ends-never w) h = subst (λ (k : ℕ). w .tried ≤ length (w .kept) * k) (edges-many m limits) (h .tried)
-    orderly (ends-open w) h = subst (λ (k : ℕ). w .tried ≤ length (w .kept) * k) (edges-many m limits) (h .tried)
+    orderly (ends-reached w) h = subst (λ (k : ℕ). w .tried ≤ length (w .kept) * k) many (h .tried)
+    orderly (ends-never w) h = subst (λ (k : ℕ). w .tried ≤ length (w .kept) * k) many (h .tried)
+    orderly (ends-open w) h = subst (λ (k : ℕ). w .tried ≤ length (w .kept) * k) many (h .tried)
     orderly (ends-refused e) h = omega arith
 
     by : Dec (length before < recordSize (m .clocks)) → Counted (answerBy v)

@@ -127,7 +127,7 @@ module _ (m : Model) (limits : ModelLimits m) where
         by (ends-refused x) u q f = absurd f
 
     -- the path that the area shows beside the answer
-    shown-means : (o : Ending) → walkOf (plain m) room ≡ o
+    pub shown-means : (o : Ending) → walkOf (plain m) room ≡ o
         → Means S (pathIn n (areaAfter n o area) (keptSaid (answerOf (m .depth) o))) (answerOf (m .depth) o)
     unfolding answerOf
     shown-means o e = by o e (subst (λ (o : Ending). Means S (lastPath (keptBy o)) (answerOf (m .depth) o)) e

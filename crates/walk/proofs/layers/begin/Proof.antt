@@ -7,11 +7,12 @@ use lib.IntN.{ℤ, pos}
 use lib.ListN.{length, length-replicate}
 use lib.Seq.{length-take-le}
 use Rattle.runs.specs.Rule.{enter, zeros}
+use Rattle.model.specs.Models.{pastBounds}
 use Rattle.model.specs.Plain.{plain}
 use Rattle.model.proofs.PlainLimits.{invariant-fits}
 use Rattle.walk.specs.declared.Moved.{Moved}
 use Rattle.walk.specs.Control.{endedBy}
-use Rattle.walk.proofs.FormLaws.{Gave, prefix-in, pastBounds}
+use Rattle.walk.proofs.FormLaws.{Gave, prefix-in}
 use Rattle.walk.proofs.LayerLaws.{finds-as}
 use Rattle.walk.proofs.BeginLaws.{zeros-part, begin-starts, begin-gave, begin-stops, begin-empty, begin-full}
 use Rattle.walk.proofs.layers.begin.Statement.{statement}

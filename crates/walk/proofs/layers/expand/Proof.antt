@@ -3,13 +3,14 @@ use mathlib.Core.Path.{_≡_, refl, sym, ap, _∙_}
 use Prim.Native.Nat.{_+_, _-_, _≤_}
 use lib.ListN.{length}
 use Rattle.runs.specs.Rule.{tryEdge, expand}
+use Rattle.model.specs.Models.{pastEdge, pastBounds}
 use Rattle.model.specs.Plain.{plain}
 use Rattle.walk.specs.Control.{walkIn, Does}
 use mathlib.Core.List.{List}
 use mathlib.Core.Logic.{⊎-elim}
 use lib.IntN.{ℤ}
 use Rattle.walk.proofs.KeepingLaws.{goes-on, does-as}
-use Rattle.walk.proofs.FormLaws.{pastEdge, pastBounds, try-leaves, try-stays}
+use Rattle.walk.proofs.FormLaws.{try-leaves, try-stays}
 use Rattle.walk.proofs.Turns.{Turning, turn-first, turns-on, turns-end, turns-done, ready-on, counted, does-more, not-going}
 use borrow.Author.Needs.{needs}
 use Prim.Native.Nat.{ℕ, _<_}

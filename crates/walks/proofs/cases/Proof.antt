@@ -1,0 +1,31 @@
+use Prim.Native.Nat.{_-_}
+use lib.ListN.{length}
+use borrow.Author.Needs.{needs}
+use Rattle.walks.proofs.cases.Statement.{statement}
+use Rattle.walks.proofs.cases.Tie as tie
+
+abbrev Inv-loop : tie.InvT-loop
+Inv-loop input at₀ at = Unit {0}
+
+abbrev μ-loop : tie.MeasureT-loop
+μ-loop input at₀ at = length input - at
+
+loop-holds : tie.Need-loop-holds Inv-loop μ-loop
+loop-holds c = search needs
+
+case-requires : tie.Need-case-requires Inv-loop μ-loop
+case-requires c κs = search needs
+
+loop-less : tie.Need-loop-less Inv-loop μ-loop
+loop-less c = search needs
+
+loop-again : tie.Need-loop-again Inv-loop μ-loop
+loop-again c = search needs
+
+returns : tie.Need-returns Inv-loop μ-loop
+returns c = search needs
+
+-- `cases` ends: each case starts behind the one before
+pub cases-spec : {M : Type 1} → statement M
+cases-spec =
+    tie.close (tie.spec Inv-loop μ-loop loop-holds case-requires loop-less loop-again returns)
