@@ -1,0 +1,3 @@
+pub mod ShownStops
+pub mod WalkedText
+pub mod LineLaws
