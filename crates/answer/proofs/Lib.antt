@@ -1,3 +1,4 @@
 pub mod ShownStops
 pub mod WalkedText
 pub mod LineLaws
+pub mod PrintLaws

@@ -30,7 +30,7 @@ use Rattle.area.proofs.HoldingLaws.{AllWhole}
 use Rattle.area.proofs.RecordLaws.{room-cap}
 use Rattle.walk.specs.Walks.{Walked, endingOf, walkedOf, pathIn}
 use Rattle.walk.proofs.Trails.{path-shown}
-use Rattle.printing.specs.Text.{textOf}
+use Rattle.printing.specs.Text.{Stop, textOf}
 use Rattle.printing.proofs.TextSize.{text-long}
 use Rattle.answer.specs.Printed.{stopsOf, textFor}
 use Rattle.answer.specs.Shown.{Shows}
@@ -47,6 +47,11 @@ ShownBy m area (refused number) = Unit {0}
 pub record Legible (m : Model) (w : Walked) : Type 0 where
   pub fits : length (textFor (value m) w) ≤ 397
   pub shown : ShownBy m (w .area) (w .answer)
+
+-- REFUSED has one line
+pub refused-long : (stops : List Stop) (number : ℕ) → number ≤ 8 → length (textOf stops (refused number)) ≤ 397
+unfolding textOf
+refused-long stops number h = text-long [] (refused number) (omega arith) tt h
 
 module _ (m : Model) (limits : ModelLimits m) (before : List ℤ) where
   abbrev n : ℕ
@@ -66,7 +71,7 @@ module _ (m : Model) (limits : ModelLimits m) (before : List ℤ) where
 
   refused-legible : (e : Refusal) (area : List ℤ) → Legible m (record { answer = refused (refusalNumber e); area = area })
   refused-legible e area = record {
-    fits = unfold textOf in text-long [] (refused (refusalNumber e)) (omega arith) tt (number-range e .1);
+    fits = refused-long _ (refusalNumber e) (number-range e .1);
     shown = tt;
   }
 
