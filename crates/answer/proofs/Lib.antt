@@ -2,3 +2,4 @@ pub mod ShownStops
 pub mod WalkedText
 pub mod LineLaws
 pub mod PrintLaws
+pub mod Theorems

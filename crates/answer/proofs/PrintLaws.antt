@@ -1,12 +1,11 @@
 -- The contracts of printing: of a model that is walked, and of bytes.
-use mathlib.Core.Bool.{true, false}
-use mathlib.Core.List.{List, [], _∷_, _++_, append-nil}
+use mathlib.Core.List.{List, [], _++_, append-nil}
 use mathlib.Core.Logic.{_⊎_, inl, inr}
 use mathlib.Core.Path.{_≡_, refl, sym, ap, _∙_, subst}
 use Prim.Native.Nat.{ℕ, _-_, _≤_, _<_}
 use native.Mathlib.Omega.{arith}
 use lib.IntN.{ℤ}
-use lib.ListN.{length, drop}
+use lib.ListN.{length}
 use borrow.Author.Tests.{lt-ltb, le-ltb}
 use denote.Enum.Declared.{tagOf}
 use Rattle.numbers.specs.Refusals.{refusalNumber}
@@ -19,22 +18,20 @@ use Rattle.codec.proofs.Step.{the-type}
 use Rattle.codec.specs.Answers.{Writes, Room, whyStep}
 use Rattle.codec.specs.Arrays.{each}
 use Rattle.codec.proofs.WriteLaws.{put-start, wrote-then, room-first, room-next}
-use Rattle.runs.specs.Models.{System}
 use Rattle.runs.specs.Verdicts.{Answer, reached, refused, answerBy}
 use Rattle.runs.specs.declared.Verdict.{Verdict}
 use Rattle.runs.specs.declared.Verdict.the-variants.{Reached, Never, Open, Refused}
 use Rattle.runs.proofs.Verdict.{the-type as the-verdict}
 use Rattle.model.specs.declared.Model.{Model}
-use Rattle.model.specs.Answers.{Said, value, refusal, readOf, ReadsModel}
+use Rattle.model.specs.Answers.{Said, value, readOf, ReadsModel}
 use Rattle.model.specs.Limits.{ModelLimits}
 use Rattle.model.specs.Plain.{plain}
 use Rattle.walk.specs.Walks.{Walked, walkedOf, keptSaid, pathIn, WalksModel}
 use Rattle.printing.specs.Text.{Stop, headOf, lineOf, linesOf, textOf}
-use Rattle.printing.proofs.HeadText.{head-wrote}
 use Rattle.printing.proofs.TextSize.{head-long}
 use Rattle.answer.specs.declared.Printed.the-variants.{Text, Refused as PrintRefused}
 use Rattle.answer.specs.Printed.{stopsOf, textFor, textOver, printedOf, Prints}
-use Rattle.answer.specs.Shown.{Shows, Printable, Lines, PrintsModel}
+use Rattle.answer.specs.Shown.{Printable, Lines, PrintsModel}
 use Rattle.answer.proofs.WalkedText.{ShownBy, Legible, refused-long, walked-legible}
 
 -- ---- a model that is walked

@@ -46,6 +46,6 @@ pub record Ready (m : Model) (text : List ℕ) : Type 0 where
 
 -- the area is as the walk leaves it, and the text is written
 pub record PrintsModel (m : Model) (area : List ℤ) (text : List ℕ) (area′ : List ℤ) (text′ : List ℕ) (end : ℕ) : Type 0
-    where
-  pub left : area′ ≡ walkedOf (value m) area .area
-  pub wrote : Writes text 0 (textFor (value m) (walkedOf (value m) area)) text′ end
+  where
+    pub left : area′ ≡ walkedOf (value m) area .area
+    pub wrote : Writes text 0 (textFor (value m) (walkedOf (value m) area)) text′ end

@@ -36,7 +36,12 @@ fn print(model: Model, area: &mut [i32], text: &mut [u8]) -> usize
     let n = model.clocks as usize;
     let v = walk::walk_model(model, &mut *area);
     let at = printing::head(&mut *text, v);
-    let Verdict::Reached { edges: _, kept, tried: _ } = v else {
+    let Verdict::Reached {
+        edges: _,
+        kept,
+        tried: _,
+    } = v
+    else {
         return at;
     };
     lines(area, n, kept - 1, &mut *text, at)
@@ -56,5 +61,6 @@ pub fn answer(bytes: &[u8], area: &mut [i32], text: &mut [u8]) -> Printed
     let Step::At(_) = step else {
         return Printed::Text(printing::head(&mut *text, Verdict::Refused(step.why())));
     };
-    Printed::Text(print(model, &mut *area, &mut *text))
+    let end = print(model, &mut *area, &mut *text);
+    Printed::Text(end)
 }

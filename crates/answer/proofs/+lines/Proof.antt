@@ -1,7 +1,6 @@
 use borrow.Author.Needs.{needs}
 use native.Mathlib.Omega.{arith}
 use mathlib.Core.Path.{_≡_, refl}
-use Prim.Native.Nat.{_+_, _*_, _≤_}
 use lib.IntN.{pos}
 use lib.ListN.{length, getD}
 use mir.Syntax.{w32}
@@ -9,7 +8,7 @@ use mir.Val.{toZ, ofZ}
 use Rattle.walk.specs.Walks.{wordAt}
 use Rattle.answer.proofs.LineLaws.{words-inside, word-read, lines-none, parent-earlier, parent-fits, edge-fits}
 use Rattle.answer.proofs.LineLaws.{location-fits, parent-printable, line-room, lines-more}
-use Prim.Native.Nat.{ℕ, _<_}
+use Prim.Native.Nat.{ℕ, _+_, _*_, _≤_, _<_}
 use borrow.Fn.Kinds.{In}
 use borrow.Fn.PlainCycle.{Measures, is, falls, and}
 use Rattle.answer.proofs.lines.Reads as lines

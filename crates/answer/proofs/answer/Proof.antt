@@ -3,12 +3,6 @@ use Rattle.answer.proofs.PrintLaws.{prints-short, refused-fits, prints-
 use borrow.Author.Needs.{needs}
 use Rattle.answer.proofs.answer.Statement.{statement}
 use Rattle.answer.proofs.answer.Tie as tie
-use Rattle.answer.proofs.answer.Reads as reads
-use Rattle.answer.proofs.answer.Lts as lts
-use Rattle.answer.proofs.print.Reads as print-reads
-use Rattle.codec.proofs.Step.why.Reads as why-reads
-use Rattle.model.proofs.read.Reads as read-reads
-use Rattle.printing.proofs.head.Reads as head-reads
 
 returns : tie.Need-returns
 returns c = prints-short _ _ _ (c .if1 .taken)

@@ -2,11 +2,6 @@ use Rattle.answer.proofs.PrintLaws.{head-fits, prints-head, some-kept, 
 use borrow.Author.Needs.{needs}
 use Rattle.answer.proofs.print.Statement.{statement}
 use Rattle.answer.proofs.print.Tie as tie
-use Rattle.answer.proofs.print.Reads as reads
-use Rattle.answer.proofs.print.Lts as lts
-use Rattle.answer.proofs.lines.Reads as lines-reads
-use Rattle.printing.proofs.head.Reads as head-reads
-use Rattle.walk.proofs.walk_model.Reads as walk-model-reads
 
 cast-n : tie.Need-cast-n
 cast-n c = search needs
