@@ -5,12 +5,12 @@ use Prim.Native.Nat.{ℕ, zero, suc, _+_, _*_, _≤_, _<_}
 use native.Mathlib.Nat.{suc-mul, zero-mul}
 use native.Mathlib.Omega.{arith}
 use lib.IntN.{ℤ, pos}
-use lib.ListN.{length, getD, drop}
+use lib.ListN.{length, getD, drop, length-append, length-drop}
 use lib.Seq.{getD-drop, drop-append-add}
 use Rattle.sets.specs.Limits.{Whole}
 use Rattle.runs.specs.Rule.{State, stateAt}
 use Rattle.area.specs.Area.{recordSize, recordOf, recordsOf, holding}
-use Rattle.area.proofs.RecordLaws.{record-size}
+use Rattle.area.proofs.RecordLaws.{size-is, record-size}
 
 -- every kept list is of whole vectors
 abbrev pub AllWhole : ℕ → List State → Type 0
@@ -34,6 +34,19 @@ records-from n (s ∷ kept) w rest (suc i) h =
     )
 
 module _ (n : ℕ) (kept : List State) (whole : AllWhole n kept) (area : List ℤ) (i : ℕ) (inside : i < length kept) where
+  -- record i lies in the area
+  pub holding-inside : i * recordSize n + recordSize n ≤ length (holding n kept area)
+  unfolding holding
+  holding-inside = let (more, e) = records-from n kept whole (drop (length kept * recordSize n) area) i inside in
+      omega (
+        arith,
+        ap length e,
+        length-drop (i * recordSize n) (recordsOf n kept ++ drop (length kept * recordSize n) area),
+        length-append (recordOf n (stateAt kept i)) more,
+        record-size n (stateAt kept i) (whole i inside),
+        size-is n,
+      )
+
   -- the parent and the edge of state i
   pub holding-parent : getD (holding n kept area) (i * recordSize n + 1) (pos 0) ≡ stateAt kept i .parent
   unfolding holding recordOf

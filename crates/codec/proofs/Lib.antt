@@ -9,3 +9,4 @@ pub mod NumberTrip
 pub mod FormTrip
 pub mod FormSize
 pub mod Settled
+pub mod RefusalNumbers

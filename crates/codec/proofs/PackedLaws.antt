@@ -17,6 +17,11 @@ inside [] i d d' h = absurd (omega arith)
 inside (x ∷ xs) zero d d' h = refl
 inside (x ∷ xs) (suc i) d d' h = inside xs i d d' (omega arith)
 
+-- of one item more
+pub all-behind : {A : Type 0} (P : A → Type 0) (xs : List A) {x : A} → All P xs → P x → All P (xs ++ (x ∷ []))
+all-behind P [] h p = (p, tt)
+all-behind P (y ∷ xs) (q, h) p = (q, all-behind P xs h p)
+
 module _ {A : Type 0} (P : A → Type 0) (d : A) where
   -- by place, and of all
   pub all-of : (xs : List A) → ((i : ℕ) → i < length xs → P (getD xs i d)) → All P xs

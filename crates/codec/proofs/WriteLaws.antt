@@ -41,7 +41,7 @@ wrote-then {a} {b} {d} {xs} {ys} {at} v w =
     }
 
 -- ---- the items of an array, one behind the other
-each-append : {A : Type 0} (f : A → List ℕ) (xs : List A) (a : A) → each f (xs ++ (a ∷ [])) ≡ each f xs ++ f a
+pub each-append : {A : Type 0} (f : A → List ℕ) (xs : List A) (a : A) → each f (xs ++ (a ∷ [])) ≡ each f xs ++ f a
 each-append f [] a = append-nil (f a)
 each-append f (x ∷ xs) a = ap (_++_ (f x)) (each-append f xs a) ∙ sym (append-assoc (f x) (each f xs) (f a))
 

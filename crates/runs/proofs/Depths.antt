@@ -50,7 +50,7 @@ last-new kept z d e =
 
 module _ (S : System) (room : ℕ) where
   -- what holds with the new state holds after it is kept and tested
-  keep-deep : (P Q : Walk → Type 0) (z : State) (w : Walk) → P (keeping z w) → Q (keeping z w)
+  pub keep-deep : (P Q : Walk → Type 0) (z : State) (w : Walk) → P (keeping z w) → Q (keeping z w)
       → Ends P Q (keep S room z w)
   unfolding keep test
   keep-deep P Q z w p q = ends-cond (ltb (length (w .kept)) room)

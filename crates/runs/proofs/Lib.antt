@@ -11,6 +11,7 @@ pub mod CallLaws
 pub mod Covering
 pub mod Entering
 pub mod Meaning
+pub mod Located
 pub mod Examples
 pub mod Settled
 pub mod Checking

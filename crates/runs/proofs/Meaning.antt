@@ -59,7 +59,7 @@ covered-by n (s ∷ kept) q l e = by (or-true (eqb (s .location) q && included n
 abbrev pub Every : (State → List ℕ → Type 0) → List State → Type 0
 Every Q kept = (i : ℕ) → i < length kept → Q (stateAt kept i) (pathOf kept i)
 
-every-add : (Q : State → List ℕ → Type 0) (kept : List State) (z : State) → Every Q kept
+pub every-add : (Q : State → List ℕ → Type 0) (kept : List State) (z : State) → Every Q kept
     → Q z (pathOf (kept ++ (z ∷ [])) (length kept)) → Every Q (kept ++ (z ∷ []))
 every-add Q kept z h q i l = by (decLt i (length kept))
   where

@@ -1,0 +1,5 @@
+pub mod ShownStops
+pub mod WalkedText
+pub mod LineLaws
+pub mod PrintLaws
+pub mod Theorems

@@ -1,0 +1,71 @@
+use Rattle.walk.proofs.WalkLaws.{read-value}
+use Rattle.answer.proofs.PrintLaws.{prints-short, refused-fits, prints-unread, prints-read}
+use borrow.Author.Needs.{needs}
+use Rattle.answer.proofs.answer.Statement.{statement}
+use Rattle.answer.proofs.answer.Tie as tie
+
+returns : tie.Need-returns
+returns c = prints-short _ _ _ (c .if1 .taken)
+
+read-requires : tie.Need-read-requires
+read-requires c κs = search needs
+
+enum-told : tie.Need-enum-told
+enum-told c = search needs
+
+enum-told-2 : tie.Need-enum-told-2
+enum-told-2 c = search needs
+
+why-requires : tie.Need-why-requires
+why-requires c κs = search needs
+
+head-requires : tie.Need-head-requires
+head-requires c κs =
+    refused-fits (c .why .result) (c .before .before .before .before .before .before .if1 .left)
+
+same-length : tie.Need-same-length
+same-length c = search needs
+
+returns-2 : tie.Need-returns-2
+returns-2 c =
+    let y = c .before .before .before in
+    let x = y .before .before .before .before .before in
+    prints-unread _ _ _ (x .read .result .step) (x .before .if1 .left) (x .read .ensures)
+    (y .before .before .before .match .keys2) (y .why .ensures) (c .before .before .head .ensures)
+
+print-requires : tie.Need-print-requires
+print-requires c κs =
+    let e = c .before .before in
+    let x = e .before .before .before in
+    record { limits = x .read .ensures .stands _ (e .enum-told .given .1) .limits; room = x .before .if1 .left }
+
+same-length-2 : tie.Need-same-length-2
+same-length-2 c = search needs
+
+same-length-3 : tie.Need-same-length-3
+same-length-3 c = search needs
+
+returns-3 : tie.Need-returns-3
+returns-3 c =
+    let e = c .before .before .before .before .before .before in
+    let x = e .before .before .before in
+    prints-read _ _ _ (x .before .if1 .left)
+    (read-value _ (x .read .result .step) _ _ (x .read .ensures) (e .enum-told .given .1))
+    (x .read .ensures .stands _ (e .enum-told .given .1) .limits) (c .before .before .before .print .ensures)
+
+pub answer-spec : {M : Type 1} → statement M
+answer-spec =
+    tie.close
+    (tie.spec
+    returns
+    read-requires
+    enum-told
+    enum-told-2
+    why-requires
+    head-requires
+    same-length
+    returns-2
+    print-requires
+    same-length-2
+    same-length-3
+    returns-3)

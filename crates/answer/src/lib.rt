@@ -1,0 +1,66 @@
+// The answer of the walk as text: from a model's bytes to the lines that a person reads.
+ghost use Rattle.answer.specs.Printed.{Prints};
+ghost use Rattle.answer.specs.Shown.{Printable, Lines, Ready, PrintsModel};
+use codec::Step;
+use model::Model;
+use numbers::Refusal;
+use runs::Verdict;
+
+// How long the text is, or why there is none.
+pub enum Printed {
+    Text(usize),
+    Refused(Refusal),
+}
+
+// The lines of the path to state i: those of its parent, kept before it, and its own.
+fn lines(area: &[i32], n: usize, i: usize, text: &mut [u8], at: usize) -> usize
+    requires { ⌜ Printable n (now area) i (now text) at ⌝ }
+    ensures { λ r. ⌜ Lines n (now (area .entry)) i (now (text .entry)) at (now (text .exit)) r ⌝ }
+{
+    let from = i * area::size(n);
+    let parent = area[from + 1];
+    if parent < 0 {
+        return at;
+    }
+    let edge = area[from + 2];
+    let location = area[from];
+    let end = lines(area, n, parent as usize, &mut *text, at);
+    printing::line(&mut *text, end, edge as usize, location as usize)
+}
+
+// Walks a model and writes its text: the first line, and under REACHED the lines of the path.
+fn print(model: Model, area: &mut [i32], text: &mut [u8]) -> usize
+    requires { ⌜ Ready model (now text) ⌝ }
+    ensures { λ r. ⌜ PrintsModel model (now (area .entry)) (now (text .entry)) (now (area .exit)) (now (text .exit)) r ⌝ }
+{
+    let n = model.clocks as usize;
+    let v = walk::walk_model(model, &mut *area);
+    let at = printing::head(&mut *text, v);
+    let Verdict::Reached {
+        edges: _,
+        kept,
+        tried: _,
+    } = v
+    else {
+        return at;
+    };
+    lines(area, n, kept - 1, &mut *text, at)
+}
+
+// Writes the text of the walk over bytes; SHAPE for a text area shorter than the longest answer.
+pub fn answer(bytes: &[u8], area: &mut [i32], text: &mut [u8]) -> Printed
+    ensures { λ r. ⌜ Prints (now (bytes .entry)) (now (area .entry)) (now (text .entry)) r (now (area .exit))
+        (now (text .exit)) ⌝ }
+{
+    if text.len() < 397 {
+        return Printed::Refused(Refusal::Shape);
+    }
+    let reading = model::read(bytes);
+    let step = reading.step;
+    let model = reading.model;
+    let Step::At(_) = step else {
+        return Printed::Text(printing::head(&mut *text, Verdict::Refused(step.why())));
+    };
+    let end = print(model, &mut *area, &mut *text);
+    Printed::Text(end)
+}
