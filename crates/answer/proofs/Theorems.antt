@@ -1,12 +1,14 @@
 -- What holds of printing an answer.
-use mathlib.Core.List.{List, [], _∷_}
+use mathlib.Core.Bool.{Bool, true, false, cond}
+use mathlib.Core.List.{List, [], _∷_, _++_}
 use mathlib.Core.Path.{_≡_, refl, sym, ap, _∙_}
 use Prim.Native.Nat.{ℕ, _≤_}
 use native.Mathlib.Omega.{arith}
+use lib.Dec.{ltb}
 use lib.IntN.{ℤ}
-use lib.ListN.{length}
+use lib.ListN.{length, drop, length-append}
 use Rattle.numbers.specs.Refusals.{refusalNumber}
-use Rattle.numbers.specs.declared.Refusal.the-variants.{Bytes}
+use Rattle.numbers.specs.declared.Refusal.the-variants.{Shape, Bytes}
 use Rattle.numbers.proofs.RefusalLaws.{number-inj}
 use Rattle.codec.specs.Arrays.{AreBytes}
 use Rattle.codec.specs.Form.{readIn}
@@ -14,13 +16,13 @@ use Rattle.codec.specs.Number.{Got, got, refused}
 use Rattle.codec.proofs.RefusalNumbers.{Numbered, numbered, form-numbered}
 use Rattle.codec.proofs.Settled.{writes-settled}
 use Rattle.model.specs.declared.Model.{Model}
-use Rattle.model.specs.Answers.{value, wholly, readOf}
+use Rattle.model.specs.Answers.{Said, value, refusal, wholly, readOf}
 use Rattle.model.specs.Models.{modelForm}
 use Rattle.model.proofs.Theorems.{read-written}
 use Rattle.walk.specs.Walks.{walkedOf}
 use Rattle.answer.specs.declared.Printed.{Printed}
 use Rattle.answer.specs.declared.Printed.the-variants.{Text, Refused}
-use Rattle.answer.specs.Printed.{textFor, textOver, Answered, printedSaid, Prints}
+use Rattle.answer.specs.Printed.{textFor, textOver, Answered, printedOf, printedSaid, Prints}
 use Rattle.answer.specs.Shown.{Printable, Lines, PrintsModel}
 use Rattle.answer.proofs.WalkedText.{refused-long, walked-legible}
 
@@ -36,6 +38,38 @@ text-fits bytes are area = by (readIn modelForm bytes) (form-numbered modelForm 
     by (got m []) h f = f m refl
     by (got m (b ∷ s)) h f = refused-long [] (refusalNumber Bytes) (omega arith)
     by (refused e) (numbered h) f = refused-long [] e h
+
+-- the text that was written lies in its area
+pub text-within : (bytes : List ℕ) (area : List ℤ) (text : List ℕ) (r : Printed) (area′ : List ℤ) (text′ : List ℕ) (k : ℕ)
+    → Prints bytes area text r area′ text′ → r ≡ Text k → k ≤ length text′
+unfolding printedOf
+text-within bytes area text r area′ text′ k v e = by (ltb (length text) 397) (v .is)
+  where
+    answer : List ℕ
+    answer = textOver bytes area
+
+    short : Answered
+    short = record { said = refusal (refusalNumber Shape); area = area; text = text }
+
+    full : Answered
+    full = record {
+      said = value (length answer);
+      area = walkedOf (readOf bytes) area .area;
+      text = answer ++ drop (length answer) text;
+    }
+
+    said : value k ≡ printedSaid r
+    said = ap printedSaid (sym e)
+
+    by : (b : Bool) → record { said = printedSaid r; area = area′; text = text′ } ≡ cond b short full → k ≤ length text′
+    by true q = absurd (let p : value k ≡ refusal (refusalNumber Shape) = said ∙ ap (λ (x : Answered). x .said) q in
+        let z : _≡_ {A = ℕ} 0 1 = cc in omega arith)
+    by false q =
+        let p : value k ≡ value (length answer) = said ∙ ap (λ (x : Answered). x .said) q in
+        let c : k ≡ length answer = cc in
+        let t : length text′ ≡ length (answer ++ drop (length answer) text)
+        = ap (λ (x : Answered). length (x .text)) q in
+        omega (arith, c, t, length-append answer (drop (length answer) text))
 
 -- ---- the contracts settle the answers
 same-answer : (r q : Printed) → printedSaid r ≡ printedSaid q → r ≡ q

@@ -1,0 +1,4 @@
+// The program on the rule set of models/fresh.md.
+fn main() {
+    console::run();
+}

@@ -1,0 +1,4 @@
+// Prints the answer of the model on standard input.
+fn main() {
+    console::run();
+}

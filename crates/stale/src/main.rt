@@ -1,0 +1,4 @@
+// The program on the rule set of models/stale.md.
+fn main() {
+    console::run();
+}
