@@ -1,11 +1,18 @@
 use Rattle.walk.proofs.WalkLaws.{read-value}
 use Rattle.answer.proofs.PrintLaws.{prints-short, refused-fits, prints-unread, prints-read}
 use borrow.Author.Needs.{needs}
+use native.Mathlib.Omega.{arith}
+use Prim.Native.Nat.{_≤_}
+use lib.ListN.{length}
 use Rattle.answer.proofs.answer.Statement.{statement}
 use Rattle.answer.proofs.answer.Tie as tie
 
+-- there is room for the longest answer
+long : (c : tie.Else1) → 397 ≤ length (c .before .before .before .args .text .now)
+long c = omega (arith, c .if1 .left)
+
 returns : tie.Need-returns
-returns c = prints-short _ _ _ (c .if1 .taken)
+returns c = prints-short _ _ (c .before .before .before .args .text .now) (omega (arith, c .if1 .taken))
 
 read-requires : tie.Need-read-requires
 read-requires c κs = search needs
@@ -21,7 +28,7 @@ why-requires c κs = search needs
 
 head-requires : tie.Need-head-requires
 head-requires c κs =
-    refused-fits (c .why .result) (c .before .before .before .before .before .before .if1 .left)
+    refused-fits (c .why .result) (long (c .before .before .before .before .before .before))
 
 same-length : tie.Need-same-length
 same-length c = search needs
@@ -30,14 +37,14 @@ returns-2 : tie.Need-returns-2
 returns-2 c =
     let y = c .before .before .before in
     let x = y .before .before .before .before .before in
-    prints-unread _ _ _ (x .read .result .step) (x .before .if1 .left) (x .read .ensures)
+    prints-unread _ _ _ (x .read .result .step) (long (x .before)) (x .read .ensures)
     (y .before .before .before .match .keys2) (y .why .ensures) (c .before .before .head .ensures)
 
 print-requires : tie.Need-print-requires
 print-requires c κs =
     let e = c .before .before in
     let x = e .before .before .before in
-    record { limits = x .read .ensures .stands _ (e .enum-told .given .1) .limits; room = x .before .if1 .left }
+    record { limits = x .read .ensures .stands _ (e .enum-told .given .1) .limits; room = long (x .before) }
 
 same-length-2 : tie.Need-same-length-2
 same-length-2 c = search needs
@@ -49,7 +56,7 @@ returns-3 : tie.Need-returns-3
 returns-3 c =
     let e = c .before .before .before .before .before .before in
     let x = e .before .before .before in
-    prints-read _ _ _ (x .before .if1 .left)
+    prints-read _ _ _ (long (x .before))
     (read-value _ (x .read .result .step) _ _ (x .read .ensures) (e .enum-told .given .1))
     (x .read .ensures .stands _ (e .enum-told .given .1) .limits) (c .before .before .before .print .ensures)
 
