@@ -15,7 +15,7 @@ fn byte(out: &mut [u8], at: usize, x: u8) -> usize
 }
 
 // A number in decimal.
-pub fn number(out: &mut [u8], at: usize, v: usize) -> usize
+fn number(out: &mut [u8], at: usize, v: usize) -> usize
     requires { ⌜ Room at (decimal v) (now out) ⌝ }
     ensures { λ r. ⌜ Writes (now (out .entry)) at (decimal v) (now (out .exit)) r ⌝ }
 {

@@ -26,7 +26,7 @@ use Rattle.model.proofs.PlainLimits.{edges-many}
 use Rattle.model.proofs.Theorems.{read-written}
 use Rattle.area.specs.Area.{recordSize, roomOf, areaAfter}
 use Rattle.area.proofs.RecordLaws.{room-one, room-some}
-use Rattle.walk.specs.Walks.{Walked, endingOf, walkedOf, pathIn, keptSaid, withDepth, Walks}
+use Rattle.walk.specs.Walks.{Walked, endingOf, walkedOf, pathIn, keptSaid, withDepth, WalksModel, Walks}
 use Rattle.walk.proofs.WalkLaws.{ending-path, shown-means}
 
 -- ---- settled
@@ -40,6 +40,12 @@ areas e = ap (λ w. w .area) e
 pub walk-settled : (s : List ℕ) (before : List ℤ) (v u : Verdict) (after last : List ℤ) → Walks s before v after
     → Walks s before u last → (v ≡ u) × (after ≡ last)
 walk-settled s before v u after last a b =
+    let e = a .rule ∙ sym (b .rule) in
+    (verdict-settled v u (answers e), areas e)
+
+pub model-settled : (m : Model) (before : List ℤ) (v u : Verdict) (after last : List ℤ) → WalksModel m before v after
+    → WalksModel m before u last → (v ≡ u) × (after ≡ last)
+model-settled m before v u after last a b =
     let e = a .rule ∙ sym (b .rule) in
     (verdict-settled v u (answers e), areas e)
 
