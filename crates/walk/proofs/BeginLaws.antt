@@ -33,7 +33,7 @@ use Rattle.steps.specs.Steps.{Starts}
 use Rattle.area.specs.Area.{recordsOf, holding}
 use Rattle.area.specs.Records.{statesIn}
 use Rattle.walk.specs.Control.{tally, Ready, Finds, stoppedBy, endedBy}
-use Rattle.walk.proofs.KeepingLaws.{stays}
+use Rattle.walk.proofs.KeepingLaws.{stays, full-list}
 use Rattle.walk.proofs.FormLaws.{Gave, shows-made, shows-refused}
 use Rattle.walk.proofs.LayerLaws.{finds-never, finds-refused}
 
@@ -115,14 +115,10 @@ module _ (m : Model) (limits : ModelLimits m) (room : ℕ) where
         never : ends-never (record { kept = statesIn n 0 area; tried = 0 }) ≡ walkOf (plain m) room
         never = unfold statesIn in walk-is (made []) (g .is ∙ ap made none)
 
-    full : (l : List ℤ) → ¬ (length l ≡ 0) → isEmpty l ≡ false
-    full [] h = absurd (h refl)
-    full (z ∷ l) h = refl
-
     -- it is not
     pub begin-full : ¬ (k ≡ 0) → k * (n + 1) ≤ length after
         → begun (layers S room (m .depth) 0) (keep S room (zeroth S l) nothing) ≡ walkOf (plain m) room
-    begin-full h b = sym (rw (full l some)) ∙ walk-is (made l) (g .is)
+    begin-full h b = sym (rw (full-list l some)) ∙ walk-is (made l) (g .is)
       where
         some : ¬ (length l ≡ 0)
         some e = h (zero-of k n (sym (length-take-le (k * (n + 1)) after b) ∙ e))

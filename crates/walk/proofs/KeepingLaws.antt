@@ -85,6 +85,19 @@ pub tested-not : (n : ℕ) (goal : Goal) (q : ℕ) (l : List ℤ) (y : Tally) �
 unfolding testedBy
 tested-not n goal q l y h = rw (ne-eqb q (goal .location) h)
 
+-- ---- the empty test, by the length
+empty-list : (l : List ℤ) → length l ≡ 0 → isEmpty l ≡ true
+empty-list [] h = refl
+empty-list (z ∷ l) h = absurd (omega arith)
+
+pub full-list : (l : List ℤ) → ¬ (length l ≡ 0) → isEmpty l ≡ false
+full-list [] h = absurd (h refl)
+full-list (z ∷ l) h = refl
+
+or-true : (a b : Bool) → b ≡ true → (a || b) ≡ true
+or-true true b e = refl
+or-true false b e = e
+
 -- ---- a state is kept
 module _ (n room : ℕ) (y : Tally) (area : List ℤ) (goal : Goal) (q : ℕ) (parent edge : ℤ) (l : List ℤ)
     (ready : Ready n room y area) (listed : Listed n l) where
@@ -145,18 +158,6 @@ module _ (n room : ℕ) (y : Tally) (area : List ℤ) (goal : Goal) (q : ℕ) (p
   store-full h = record { is = sym (rw (states-many n k area, le-ltb k room h)); grows = tt }
 
   -- ---- a candidate is judged
-  empty-list : (l : List ℤ) → length l ≡ 0 → isEmpty l ≡ true
-  empty-list [] h = refl
-  empty-list (z ∷ l) h = absurd (omega arith)
-
-  full-list : (l : List ℤ) → ¬ (length l ≡ 0) → isEmpty l ≡ false
-  full-list [] h = absurd (h refl)
-  full-list (z ∷ l) h = refl
-
-  or-true : (a b : Bool) → b ≡ true → (a || b) ≡ true
-  or-true true b e = refl
-  or-true false b e = e
-
   pub judge-empty : length l ≡ 0 → going (walkIn n y area) ≡ judge (aimed n goal) room s (walkIn n y area)
   unfolding judge
   judge-empty h = sym (rw (empty-list l h))
