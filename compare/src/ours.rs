@@ -36,8 +36,7 @@ extern "C" {
         bytes_len: usize,
         area: *mut i32,
         area_len: usize,
-        counts: *mut u64,
-        counts_len: usize,
+        counts: *mut [u64; 3],
     ) -> i64;
     fn scionwheel_answer(
         bytes: *const u8,
@@ -77,8 +76,8 @@ pub fn rewrite(bytes: &[u8], out: &mut [u8]) -> i64 {
     unsafe { scionwheel_rewrite(bytes.as_ptr(), bytes.len(), out.as_mut_ptr(), out.len()) }
 }
 
-pub fn walk(bytes: &[u8], area: &mut [i32], counts: &mut [u64]) -> i64 {
-    unsafe { scionwheel_walk(bytes.as_ptr(), bytes.len(), area.as_mut_ptr(), area.len(), counts.as_mut_ptr(), counts.len()) }
+pub fn walk(bytes: &[u8], area: &mut [i32], counts: &mut [u64; 3]) -> i64 {
+    unsafe { scionwheel_walk(bytes.as_ptr(), bytes.len(), area.as_mut_ptr(), area.len(), counts) }
 }
 
 pub fn answer(bytes: &[u8], area: &mut [i32], text: &mut [u8]) -> i64 {

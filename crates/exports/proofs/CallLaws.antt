@@ -1,0 +1,90 @@
+-- What the calls behind the boundary give: counts that fit, and bytes read and written back.
+use mathlib.Core.Bool.{Bool, true, false, cond}
+use mathlib.Core.List.{List, _++_}
+use mathlib.Core.Path.{_≡_, refl, sym, ap, _∙_}
+use Prim.Native.Nat.{ℕ, _≤_}
+use native.Mathlib.Omega.{arith}
+use lib.Dec.{ltb}
+use lib.IntN.{ℤ}
+use lib.ListN.{length, drop}
+use borrow.Author.Tests.{lt-ltb, le-ltb}
+use denote.Enum.Declared.{tagOf}
+use Rattle.numbers.specs.Integers.{hi}
+use Rattle.numbers.specs.Refusals.{refusalNumber}
+use Rattle.numbers.specs.declared.Refusal.{Refusal}
+use Rattle.numbers.specs.declared.Refusal.the-variants.{Shape, Gens}
+use Rattle.algebra.specs.Sets.{Set}
+use Rattle.sets.specs.Demands.{Input}
+use Rattle.making.specs.declared.Made.{Made}
+use Rattle.making.specs.declared.Made.the-variants.{Vectors, Refused}
+use Rattle.making.specs.Answers.{Makes}
+use Rattle.codec.specs.Arrays.{AreBytes}
+use Rattle.codec.specs.Answers.{whyStep}
+use Rattle.codec.specs.declared.Step.{Step}
+use Rattle.codec.specs.declared.Step.the-variants.{At, Refused as Stopped}
+use Rattle.codec.proofs.Step.{the-type}
+use Rattle.model.specs.declared.Model.{Model}
+use Rattle.model.specs.Answers.{Said, value, refusal, readOf, ReadsModel, Stands, WritesModel, outside, short, wrote}
+use Rattle.model.specs.Written.{modelBytes}
+use Rattle.model.proofs.Theorems.{size}
+use Rattle.walk.specs.Walks.{walkedOf}
+use Rattle.answer.specs.declared.Printed.{Printed}
+use Rattle.answer.specs.Printed.{Answered, textOver, printedOf, printedSaid, Prints}
+use Rattle.answer.proofs.Theorems.{text-fits}
+use Rattle.exports.specs.Exported.{minus, madeNumber, saidNumber, Rewritten, rewrittenOf, Rewrites}
+use Rattle.exports.proofs.NumberLaws.{not-above}
+
+-- ---- counts fit
+-- a set that is made has at most 32 vectors
+pub made-fits : (c : Input) (n : ℕ) (wanted : Set) (before : List ℤ) (a : Made) (after : List ℤ)
+    → Makes c n wanted before a after → hi (madeNumber a) ≤ 33664
+made-fits c n wanted before (Vectors k) after p =
+    omega (arith, p .outcome .count, p .outcome .met Gens (omega arith))
+made-fits c n wanted before (Refused e) after p = omega (arith, not-above (refusalNumber e))
+
+-- a model has at most 33,664 bytes
+pub written-fits : (m : Model) (before after : List ℕ) (s : Said ℕ) → WritesModel m before after s
+    → hi (saidNumber s) ≤ 33664
+written-fits m before after s (outside l a e) = rw e (omega arith)
+written-fits m before after s (short l h a e) = rw e (omega arith)
+written-fits m before after s (wrote l h a e) = rw e (size m l)
+
+-- a text has at most 397 bytes
+pub printed-fits : (bytes : List ℕ) → AreBytes bytes → (area : List ℤ) (text : List ℕ) (r : Printed) (area′ : List ℤ)
+    (text′ : List ℕ) → Prints bytes area text r area′ text′ → hi (saidNumber (printedSaid r)) ≤ 33664
+unfolding printedOf
+printed-fits bytes are area text r area′ text′ v =
+    by (ltb (length text) 397) (ap (λ (x : Answered). x .said) (v .is))
+  where
+    answer : List ℕ
+    answer = textOver bytes area
+
+    refuses : Answered
+    refuses = record { said = refusal (refusalNumber Shape); area = area; text = text }
+
+    prints : Answered
+    prints = record {
+      said = value (length answer);
+      area = walkedOf (readOf bytes) area .area;
+      text = answer ++ drop (length answer) text;
+    }
+
+    by : (b : Bool) → printedSaid r ≡ cond b refuses prints .said → hi (saidNumber (printedSaid r)) ≤ 33664
+    by true e = rw e (omega arith)
+    by false e = rw e (omega (arith, text-fits bytes are area))
+
+-- ---- bytes read and written back
+-- they are refused
+pub rewrites-unread : (s : List ℕ) (step : Step) (m : Model) (before : List ℕ) (e : Refusal) (r : ℤ)
+    → ReadsModel s step m → tagOf the-type step ≡ 1 → e ≡ whyStep step → r ≡ minus (refusalNumber e)
+    → Rewrites s before r before
+rewrites-unread s (At end) m before e r p z f g = absurd (omega (arith, z))
+rewrites-unread s (Stopped x) m before e r p z f g = unfold rewrittenOf in rw (← p .said, g, f) refl
+
+-- they are those of a model
+pub rewrites-read : (s : List ℕ) (m : Model) (before after : List ℕ) (said : Said ℕ) (r : ℤ) → readOf s ≡ value m
+    → Stands s m → WritesModel m before after said → r ≡ saidNumber said → Rewrites s before r after
+unfolding rewrittenOf
+rewrites-read s m before after said r e p (outside l a f) g = absurd (l (p .limits))
+rewrites-read s m before after said r e p (short l h a f) g = rw (e, g, f, a, p .bytes, lt-ltb _ _ h) refl
+rewrites-read s m before after said r e p (wrote l h a f) g = rw (e, g, f, a, p .bytes, le-ltb _ _ h) refl

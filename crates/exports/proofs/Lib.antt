@@ -1,0 +1,3 @@
+pub mod NumberLaws
+pub mod CallLaws
+pub mod Settled
