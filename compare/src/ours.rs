@@ -31,13 +31,7 @@ extern "C" {
         out_len: usize,
     ) -> i64;
     fn scionwheel_rewrite(bytes: *const u8, bytes_len: usize, out: *mut u8, out_len: usize) -> i64;
-    fn scionwheel_walk(
-        bytes: *const u8,
-        bytes_len: usize,
-        area: *mut i32,
-        area_len: usize,
-        counts: *mut [u64; 3],
-    ) -> i64;
+    fn scionwheel_walk(bytes: *const u8, bytes_len: usize, area: *mut i32, area_len: usize, counts: *mut [u64; 3]) -> i64;
     fn scionwheel_answer(
         bytes: *const u8,
         bytes_len: usize,

@@ -124,10 +124,9 @@ module _ (n : ℕ) (L : List Vector) (o : ℕ) (l : o < length L) where
 -- ---- the conditions on a list are those on its family
 
 -- the order of vectors is that of their entries
-pub before : (n : ℕ) (v w : Vector) → Before n v w → Earlier n (entry v) (entry w)
-before n v w (kinds p q) = by-kind p q
-before n v w (clocks e l) =
-    by-clock e (record { j = l .at; inside = l .inside; agree = l .same; less = l .smaller })
+pub to-earlier : {n : ℕ} {v w : Vector} → Before n v w → Earlier n (entry v) (entry w)
+to-earlier (kinds p q) = by-kind p q
+to-earlier (clocks e l) = by-clock e (record { j = l .at; inside = l .inside; agree = l .same; less = l .smaller })
 
 -- the family of a canonical list is canonical
 pub canon : (n : ℕ) (L : List Vector) → Canonical n L → Canon n (length L) (family L)
@@ -135,7 +134,7 @@ unfolding Norm ⨁
 canon n L c = record {
   normal = λ i l. norm i l (c .kind i l);
   alone = λ o s. c .alone (o .0) (o .1) (generated-iff n L (o .0) (o .1) (c .kind) .1 s);
-  rising = λ i l. before n (vector L i) (vector L (suc i)) (c .rising i l);
+  rising = λ i l. to-earlier (c .rising i l);
   pointed = c .pointed;
 }
   where

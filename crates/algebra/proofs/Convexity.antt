@@ -1,6 +1,5 @@
 -- Half-spaces along a delay: one that a vector satisfies now and after δ holds at each time between.
 use mathlib.Core.Path.{_≡_, sym, _∙_, ap}
-use mathlib.Core.List.{List, [], _∷_}
 use Prim.Native.Nat.{ℕ, suc, _≤_, _<_}
 use native.Mathlib.Omega.{arith}
 use lib.IntN.{pos}
@@ -67,19 +66,3 @@ convex n a b X t δ h s0 s1 = side-sup (suc n) a (at t) bZ (places n (λ j. a j 
         go (yes f) =
             let (k, m, e) = side-at (suc n) b (at δ) (fin-up (▷-fin′ (pos δ) (a j ⊗ X j) f) low) in
             there j k m (≼-trans low (≼-of-eq e))
-
--- a list of half-spaces, each as its two sides
-abbrev pub Bounds : Type 0
-Bounds = List (Vec × Vec)
-
--- X satisfies each half-space of the list
-abbrev pub Holds : ℕ → Bounds → Vec → Type 0
-Holds n [] X = Unit {0}
-Holds n (c ∷ cs) X = Sat (suc n) (c .0) (c .1) X × Holds n cs X
-
--- a list of half-spaces that holds at X and after δ holds after every t up to δ
-pub holds-convex : (n : ℕ) (cs : Bounds) (X : Vec) (t δ : ℕ) → t ≤ δ → Holds n cs X
-    → Holds n cs (later n (pos δ) X) → Holds n cs (later n (pos t) X)
-holds-convex n [] X t δ h a b = tt
-holds-convex n (c ∷ cs) X t δ h a b =
-    (convex n (c .0) (c .1) X t δ h (a .0) (b .0), holds-convex n cs X t δ h (a .1) (b .1))

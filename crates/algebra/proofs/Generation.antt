@@ -1,7 +1,7 @@
 -- What a family of vectors generates, said by place: at each finite place of X one vector of the family, shifted,
 -- lies below X and meets it there. Only the places below d count, and any type may index the family.
 use mathlib.Core.Path.{_≡_, refl, sym}
-use mathlib.Core.Logic.{_≢_, _↔_, _⊎_, inl, inr}
+use mathlib.Core.Logic.{_≢_, _⊎_, inl, inr}
 use Prim.Native.Nat.{ℕ, _<_}
 use lib.IntN.{ℤ, pos, _+ℤ_}
 use Rattle.numbers.specs.Numbers.{Num, −∞, fin, IsFin, _≼_, _▷_, _⊗_, _⊕_}
@@ -92,14 +92,3 @@ module _ {I : Type 0} (d : ℕ) (G : I → Vec) where
   -- the family without vector o
   abbrev pub others : (o : I) → ((i : I) × (i ≢ o)) → Vec
   others o i = G (i .0)
-
-  -- a vector that the others generate can go
-  pub drop-one : Discrete I → (o : I) → Span d (others o) (G o) → (X : Vec) → Span d G X ↔ Span d (others o) X
-  drop-one dec o r X = (λ s. span-trans (others o) s (λ i. each i (dec i o)), back)
-    where
-      each : (i : I) → Dec (i ≡ o) → Span d (others o) (G i)
-      each i (yes e) = rw e r
-      each i (no n) = record { at = λ j l f. ((i, n), meets-refl d j (G i)) }
-
-      back : Span d (others o) X → Span d G X
-      back s = record { at = λ j l f. let (i, q) = s .at j l f in (i .0, q) }

@@ -1,8 +1,8 @@
--- The hull of two sets: both families together make the smallest set that holds both.
+-- The hull of two sets: a set that holds both holds the set of both families together.
 use mathlib.Core.Logic.{_⊎_, inl, inr}
 use Prim.Native.Nat.{ℕ, suc}
 use Rattle.numbers.specs.Places.{Vec}
-use Rattle.algebra.proofs.Generation.{Span, span-self, span-trans}
+use Rattle.algebra.proofs.Generation.{Span, span-trans}
 use Rattle.algebra.proofs.Residuation.{rows}
 use Rattle.algebra.proofs.Inclusion.{Kinds, HasPoint, Sub, inclusion}
 
@@ -10,14 +10,6 @@ use Rattle.algebra.proofs.Inclusion.{Kinds, HasPoint, Sub, inclusion}
 abbrev pub join : {I K : Type 0} → (I → Vec) → (K → Vec) → I ⊎ K → Vec
 join G H (inl i) = G i
 join G H (inr k) = H k
-
--- the set of the first family lies in the set of both
-pub join-l : {I K : Type 0} (n : ℕ) (G : I → Vec) (H : K → Vec) → Sub n G (join G H)
-join-l n G H X (e, s) = (e, span-trans (suc n) G (join G H) s (λ i. span-self (suc n) (join G H) (inl i)))
-
--- so does the set of the second
-pub join-r : {I K : Type 0} (n : ℕ) (G : I → Vec) (H : K → Vec) → Sub n H (join G H)
-join-r n G H X (e, s) = (e, span-trans (suc n) H (join G H) s (λ i. span-self (suc n) (join G H) (inr i)))
 
 -- a set that holds the sets of both holds the set of both together
 pub join-least : {I K : Type 0} (n : ℕ) (G : I → Vec) (H : K → Vec) → Kinds n G → Kinds n H

@@ -4,11 +4,10 @@ use mathlib.Core.Logic.{_↔_}
 use Prim.Native.Nat.{ℕ, suc, _<_}
 use native.Mathlib.Omega.{arith}
 use native.Mathlib.Decide.{ℕ-discrete}
-use Rattle.numbers.specs.Numbers.{Num, IsFin, _⊗_, ⨁, nought}
+use Rattle.numbers.specs.Numbers.{Num, _⊗_, ⨁, nought}
 use Rattle.numbers.specs.Places.{Vec}
 use Rattle.numbers.proofs.NumberLaws.{⨁-ext, ⨁-⊗, ⊗-left-comm}
 use Rattle.algebra.proofs.Entries.{Same, replace, replace-same, replace-other}
-use Rattle.algebra.proofs.Generation.{Span, meets-fin}
 use Rattle.algebra.proofs.Residuation.{Gen, rows, gen-iff-span}
 use Rattle.algebra.proofs.Rays.{Member}
 
@@ -69,8 +68,3 @@ reset-set n m G i c il Y = (to, from)
         let (a, e) = gen-iff-span (suc n) m G X .1 s in
         let y0 = q n (omega arith) ∙ (last X ∙ x0) in
         (y0, gen-iff-span (suc n) m RG Y .0 (a, λ j l. q j l ∙ combined n m G i c a X e j l))
-
--- a vector of −∞ only adds nothing to a family
-pub drop-empty : {I : Type 0} (d : ℕ) (G : I → Vec) (X : Vec) → Span d G X
-    → Span {I = (i : I) × ((j : ℕ) × (j < d) × IsFin (G i j))} d (λ i. G (i .0)) X
-drop-empty d G X s = record { at = λ j l f. let (i, p) = s .at j l f in ((i, (j, l, meets-fin p f)), p) }

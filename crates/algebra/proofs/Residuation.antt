@@ -2,14 +2,15 @@
 -- vectors of a family exactly if `reach` gives it back.
 use mathlib.Core.Path.{_≡_, refl, _∙_, subst}
 use mathlib.Core.Logic.{_↔_}
-use Prim.Native.Nat.{ℕ, _+_, _<_}
-use Rattle.numbers.specs.Numbers.{Num, −∞, fin, IsFin, _≼_, _▷_, _⊗_, _⊕_, ⨁, Within}
+use Prim.Native.Nat.{ℕ, _+_, _≤_, _<_}
+use native.Mathlib.Omega.{arith}
+use Rattle.numbers.specs.Numbers.{Num, −∞, fin, IsFin, _≼_, _▷_, _⊗_, _⊕_, ⨁}
 use Rattle.numbers.specs.Places.{Vec}
 use Rattle.numbers.specs.Weights.{weightOf}
 use Rattle.numbers.proofs.NumberLaws.{≼-trans, ≼-antisym, ≼-of-eq, dec-fin, not-fin, ⊗-fin-l, ⨁-le, ⨁-sup, ⨁-at}
-use Rattle.numbers.proofs.NumberLaws.{⨁-ext, ⊗-within, ⨁-within}
+use Rattle.numbers.proofs.NumberLaws.{⨁-ext}
 use Rattle.numbers.proofs.PlaceLaws.{⨁-none, ⨁-more}
-use Rattle.numbers.proofs.WeightLaws.{weight-below, weight-most, weight-ext, weight-within}
+use Rattle.numbers.proofs.WeightLaws.{weight-below, weight-most, weight-ext}
 use Rattle.algebra.specs.Reach.{reach}
 use Rattle.algebra.proofs.Generation.{Meets, Span}
 
@@ -92,16 +93,15 @@ pub reach-more : (d m : ℕ) (G : ℕ → Vec) (X : Vec) (j : ℕ)
 unfolding reach
 reach-more d m G X j = ⨁-more m (λ i. weightOf d (G i) X ⊗ G i j)
 
+-- more vectors reach no less
+pub reach-grows : (d i m : ℕ) (G : ℕ → Vec) (X : Vec) (j : ℕ) → i ≤ m → reach d i G X j ≼ reach d m G X j
+unfolding reach
+reach-grows d i m G X j h = ⨁-sup i (λ k. weightOf d (G k) X ⊗ G k j) (⨁ m (λ k. weightOf d (G k) X ⊗ G k j))
+    (λ k l. ⨁-le m (λ k. weightOf d (G k) X ⊗ G k j) k (omega arith))
+
 -- families and vectors with the same entries reach the same
 pub reach-ext : (d m : ℕ) (G H : ℕ → Vec) (X Y : Vec) → ((i j : ℕ) → i < m → j < d → G i j ≡ H i j)
     → ((j : ℕ) → j < d → X j ≡ Y j) → (j : ℕ) → j < d → reach d m G X j ≡ reach d m H Y j
 unfolding reach
 reach-ext d m G H X Y e q j b = ⨁-ext m (λ i. weightOf d (G i) X ⊗ G i j) (λ i. weightOf d (H i) Y ⊗ H i j)
     (λ i l. rw (weight-ext d (G i) (H i) X Y (λ k h. e i k l h) q, e i j l b))
-
--- within k + k + k, where all entries are within k
-pub reach-within : {k : ℕ} (d m : ℕ) (G : ℕ → Vec) (X : Vec) → ((i j : ℕ) → i < m → j < d → Within k (G i j))
-    → ((j : ℕ) → j < d → Within k (X j)) → (j : ℕ) → j < d → Within (k + k + k) (reach d m G X j)
-unfolding reach
-reach-within d m G X h q j b = ⨁-within m (λ i. weightOf d (G i) X ⊗ G i j)
-    (λ i l. ⊗-within (weight-within d (G i) X (λ k r. h i k l r) q) (h i j l b))

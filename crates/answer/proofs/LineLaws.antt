@@ -57,6 +57,7 @@ module _ (n i : ℕ) (area : List ℤ) {z : ℤ} (e : z ≡ wordAt n area i 1) w
       let f : ltZ (pos p) (pos 0) ≡ true = subst (λ (z : ℤ). ltZ z (pos 0) ≡ true) (e ∙ s .parent) t in
       absurd (omega (arith, ltb→lt p 0 (subst T (sym f) tt)))
 
+  -- a record without a parent has no lines
   pub lines-none : {text : List ℕ} {at : ℕ} → ltZ z (pos 0) ≡ true → Lines n area i text at text at
   lines-none {text} {at} t = record {
     wrote = λ stops s. subst (λ (l : List Stop). Writes text at (each lineOf l) text at) (sym (no-stops t s)) wrote-none;
@@ -88,21 +89,26 @@ module _ (n i : ℕ) (area : List ℤ) {z : ℤ} (e : z ≡ wordAt n area i 1) w
       abbrev own : Last n i area (h .stops)
       own = last (h .shows)
 
+      -- the parent was kept before
       pub parent-earlier : natAbs z < i
       parent-earlier = omega (arith, parent-is own, own .there .earlier)
 
+      -- its number can be cast
       pub parent-fits : i < 18446744073709551616 → T (nonNeg z) × Fits w64 (natAbs z)
       parent-fits k = word-fits (e ∙ own .there .parent) (omega (arith, own .there .earlier))
 
+      -- so can the edge's
       pub edge-fits : {x : ℤ} → x ≡ wordAt n area i 2 → T (nonNeg x) × Fits w64 (natAbs x)
       edge-fits f = word-fits (f ∙ own .there .edge) (omega (arith, own .there .limits .edge))
 
+      -- and the location's
       pub location-fits : {y : ℤ} → y ≡ wordAt n area i 0 → T (nonNeg y) × Fits w64 (natAbs y)
       location-fits g = word-fits (g ∙ own .there .location) (omega (arith, own .there .limits .location))
 
       whole : Room at (each lineOf (own .up) ++ lineOf (own .stop)) text
       whole = subst (λ (l : List ℕ). Room at l text) (split own) (h .room)
 
+      -- there is room for the parent's lines
       pub parent-printable : Printable n area (natAbs z) text at
       parent-printable = record {
         clocks = h .clocks;
@@ -111,11 +117,13 @@ module _ (n i : ℕ) (area : List ℤ) {z : ℤ} (e : z ≡ wordAt n area i 1) w
         room = room-first (each lineOf (own .up)) (lineOf (own .stop)) whole;
       }
 
+      -- and for this line behind them
       pub line-room : {text′ : List ℕ} {m : ℕ} {x y : ℤ} → x ≡ wordAt n area i 2 → y ≡ wordAt n area i 0
           → Lines n area (natAbs z) text at text′ m → Room m (lineOf (record { edge = natAbs x; location = natAbs y })) text′
       line-room {text′} {m} {x} {y} f g w = subst (λ (s : Stop). Room m (lineOf s) text′) (sym (stop-is own x y f g))
           (room-next (each lineOf (own .up)) (lineOf (own .stop)) (w .wrote (own .up) (up-shown own)) whole)
 
+    -- the parent's lines and this line are the lines to record i
     pub lines-more : {text text′ text″ : List ℕ} {at m end : ℕ} {x y : ℤ} → x ≡ wordAt n area i 2
         → y ≡ wordAt n area i 0 → Lines n area (natAbs z) text at text′ m
         → Writes text′ m (lineOf (record { edge = natAbs x; location = natAbs y })) text″ end

@@ -23,7 +23,9 @@ use Rattle.runs.specs.declared.Verdict.{Verdict}
 use Rattle.runs.specs.declared.Verdict.the-variants.{Reached, Never, Open, Refused}
 use Rattle.runs.proofs.Verdict.{the-type as the-verdict}
 use Rattle.model.specs.declared.Model.{Model}
-use Rattle.model.specs.Answers.{Said, value, readOf, ReadsModel}
+use Rattle.model.specs.declared.Outline.{Outline}
+use Rattle.model.specs.Answers.{Said, value, readOf}
+use Rattle.model.specs.Outlines.{ReadsOutline}
 use Rattle.model.specs.Limits.{ModelLimits}
 use Rattle.model.specs.Plain.{plain}
 use Rattle.walk.specs.Walks.{Walked, walkedOf, keptSaid, pathIn, WalksModel}
@@ -51,6 +53,7 @@ module _ (m : Model) (limits : ModelLimits m) (before : List ℤ) (v : Verdict) 
   unfolding textOf
   whole r = record { fits = omega (arith, legible .fits) }
 
+  -- there is room for the first line
   pub head-fits : {text : List ℕ} → 397 ≤ length text → Room 0 (headOf (answerBy v)) text
   head-fits r = room-first (headOf (answerBy v)) (linesOf (stopsBy (answerBy v)) (answerBy v)) (whole r)
 
@@ -84,6 +87,7 @@ module _ (m : Model) (limits : ModelLimits m) (before : List ℤ) (v : Verdict) 
     shown : ShownBy m after (reached d k t)
     shown = subst (λ (u : Verdict). ShownBy m after (answerBy u)) e (legible .shown)
 
+    -- under REACHED some state was kept
     pub some-kept : 1 ≤ k
     some-kept = shown .0
 
@@ -91,6 +95,7 @@ module _ (m : Model) (limits : ModelLimits m) (before : List ℤ) (v : Verdict) 
     lines-are = ap (λ (u : Verdict). linesOf (stopsBy (answerBy u)) (answerBy u)) e
 
     module _ {text text′ : List ℕ} {at : ℕ} (w : Writes text 0 (headOf (answerBy v)) text′ at) where
+      -- there is room for the lines to the state kept last
       pub lines-printable : 397 ≤ length text → Printable n after (k - 1) text′ at
       lines-printable r = record {
         clocks = limits .numbers .clocks;
@@ -100,6 +105,7 @@ module _ (m : Model) (limits : ModelLimits m) (before : List ℤ) (v : Verdict) 
             (room-next (headOf (answerBy v)) (linesOf (stopsBy (answerBy v)) (answerBy v)) w (whole r));
       }
 
+      -- the first line and those lines are the text
       pub prints-lines : {text″ : List ℕ} {end : ℕ} → Lines n after (k - 1) text′ at text″ end
           → PrintsModel m before text after text″ end
       prints-lines {text″} {end} l = prints (wrote-then w (subst (λ (b : List ℕ). Writes text′ at b text″ end)
@@ -125,8 +131,8 @@ module _ (bytes : List ℕ) (area : List ℤ) (text : List ℕ) where
       record { is = rw (e, le-ltb (length text) 397 r, a, said, stored) }
 
   -- the bytes are refused
-  pub prints-unread : (step : Step) {m : Model} {e : Refusal} {text′ : List ℕ} {end : ℕ} → 397 ≤ length text
-      → ReadsModel bytes step m → tagOf the-type step ≡ 1 → e ≡ whyStep step
+  pub prints-unread : (step : Step) {o : Outline} {e : Refusal} {text′ : List ℕ} {end : ℕ} → 397 ≤ length text
+      → ReadsOutline bytes step o → tagOf the-type step ≡ 1 → e ≡ whyStep step
       → Writes text 0 (headOf (answerBy (Refused e))) text′ end → Prints bytes area text (Text end) area text′
   unfolding walkedOf textOf
   prints-unread (At next) r s z f w = absurd (omega (arith, z))

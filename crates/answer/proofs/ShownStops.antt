@@ -23,6 +23,7 @@ pub shows-few : {n i : ℕ} {area : List ℤ} {stops : List Stop} → Shows n ar
 shows-few (root h e) = omega arith
 shows-few (next {stops = stops} {s = s} h t u) = omega (arith, shows-few u, t .earlier, length-append stops (s ∷ []))
 
+-- stops that records show are in limits
 pub shows-limits : {n i : ℕ} {area : List ℤ} {stops : List Stop} → Shows n area i stops → All StopLimits stops
 shows-limits (root h e) = tt
 shows-limits (next {stops = stops} {s = s} h t u) = all-behind StopLimits stops (shows-limits u) (t .limits)

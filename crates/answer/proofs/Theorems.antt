@@ -6,7 +6,7 @@ use Prim.Native.Nat.{ℕ, _≤_}
 use native.Mathlib.Omega.{arith}
 use lib.Dec.{ltb}
 use lib.IntN.{ℤ}
-use lib.ListN.{length, drop, length-append}
+use lib.ListN.{length, take, drop, length-append}
 use Rattle.numbers.specs.Refusals.{refusalNumber}
 use Rattle.numbers.specs.declared.Refusal.the-variants.{Shape, Bytes}
 use Rattle.numbers.proofs.RefusalLaws.{number-inj}
@@ -16,9 +16,9 @@ use Rattle.codec.specs.Number.{Got, got, refused}
 use Rattle.codec.proofs.RefusalNumbers.{Numbered, numbered, form-numbered}
 use Rattle.codec.proofs.Settled.{writes-settled}
 use Rattle.model.specs.declared.Model.{Model}
-use Rattle.model.specs.Answers.{Said, value, refusal, wholly, readOf}
+use Rattle.model.specs.Answers.{value, refusal, wholly, readOf}
 use Rattle.model.specs.Models.{modelForm}
-use Rattle.model.proofs.Theorems.{read-written}
+use Rattle.model.proofs.Theorems.{read-written, first-many}
 use Rattle.walk.specs.Walks.{walkedOf}
 use Rattle.answer.specs.declared.Printed.{Printed}
 use Rattle.answer.specs.declared.Printed.the-variants.{Text, Refused}
@@ -96,9 +96,17 @@ pub lines-settled : (n : ℕ) (area : List ℤ) (i : ℕ) (text : List ℕ) (at 
 lines-settled n area i text at text′ text″ end stop h v w =
     writes-settled text at _ text′ text″ end stop (v .wrote (h .stops) (h .shows)) (w .wrote (h .stops) (h .shows))
 
+-- the contract of printing a model's answer settles text and areas
 pub model-settled : (m : Model) (area : List ℤ) (text : List ℕ) (after last : List ℤ) (text′ text″ : List ℕ)
     (end stop : ℕ) → PrintsModel m area text after text′ end → PrintsModel m area text last text″ stop
     → (end ≡ stop) × (after ≡ last) × (text′ ≡ text″)
 model-settled m area text after last text′ text″ end stop v w =
     let both = writes-settled text 0 _ text′ text″ end stop (v .wrote) (w .wrote) in
     (both .0, v .left ∙ sym (w .left), both .1)
+
+-- ---- a long input
+-- the first bytes of an input are answered as all of it
+pub answer-first : (s : List ℕ) (k : ℕ) (area : List ℤ) (text : List ℕ) → 33665 ≤ k
+    → printedOf (take k s) area text ≡ printedOf s area text
+unfolding printedOf textOver
+answer-first s k area text h = rw (first-many s k h)

@@ -43,6 +43,7 @@ ShownBy m area (never kept tried) = Unit {0}
 ShownBy m area (open-to depth kept tried) = Unit {0}
 ShownBy m area (refused number) = Unit {0}
 
+-- a walk's text fits, and its records show the stops
 pub record Legible (m : Model) (w : Walked) : Type 0 where
   pub fits : length (textFor (value m) w) ≤ 397
   pub shown : ShownBy m (w .area) (w .answer)
@@ -116,6 +117,7 @@ module _ (m : Model) (limits : ModelLimits m) (before : List ℤ) where
   }
   ending-legible (ends-refused e) q a u = refused-legible e _
 
+  -- so it is with the rule's walk
   pub walked-legible : Legible m (walkedOf (value m) before)
   unfolding walkedOf walkOf
   walked-legible = cond-case (Legible m) (ltb (length before) (recordSize n)) (λ e. refused-legible Shape before)

@@ -55,7 +55,7 @@ printedOf bytes area text =
     } in
     cond (ltb (length text) 397) (record { said = refusal (refusalNumber Shape); area = area; text = text }) printed
 
--- the number of each answer
+-- an answer as a length or a refusal's number
 abbrev pub printedSaid : Printed → Said ℕ
 printedSaid (Text end) = value end
 printedSaid (Refused e) = refusal (refusalNumber e)

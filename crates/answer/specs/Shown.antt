@@ -7,8 +7,9 @@ use lib.ListN.{length}
 use Rattle.codec.specs.Answers.{Writes, Room}
 use Rattle.codec.specs.Arrays.{each}
 use Rattle.model.specs.Answers.{value}
-use Rattle.model.specs.Limits.{ModelLimits}
 use Rattle.model.specs.declared.Model.{Model}
+use Rattle.model.specs.declared.Outline.{Outline}
+use Rattle.model.specs.Outlines.{Outlines}
 use Rattle.area.specs.Area.{recordSize}
 use Rattle.walk.specs.Walks.{walkedOf, wordAt}
 use Rattle.printing.specs.Text.{Stop, lineOf, StopLimits}
@@ -35,13 +36,13 @@ pub record Printable (n : ℕ) (area : List ℤ) (i : ℕ) (text : List ℕ) (at
   pub shows : Shows n area i stops
   pub room : Room at (each lineOf stops) text
 
--- their lines are written
+-- the lines of the stops to record i are written
 pub record Lines (n : ℕ) (area : List ℤ) (i : ℕ) (text : List ℕ) (at : ℕ) (text′ : List ℕ) (end : ℕ) : Type 0 where
   pub wrote : (stops : List Stop) → Shows n area i stops → Writes text at (each lineOf stops) text′ end
 
--- ---- a model that is walked and printed
-pub record Ready (m : Model) (text : List ℕ) : Type 0 where
-  pub limits : ModelLimits m
+-- ---- a model that is walked by its outline, and printed
+pub record Ready (s : List ℕ) (o : Outline) (text : List ℕ) : Type 0 where
+  pub outlined : Outlines s o
   pub room : 397 ≤ length text
 
 -- the area is as the walk leaves it, and the text is written

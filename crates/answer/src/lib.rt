@@ -1,8 +1,10 @@
 // The answer of the walk as text: from a model's bytes to the lines that a person reads.
+ghost use Rattle.model.specs.Outlines.{modelBy};
 ghost use Rattle.answer.specs.Printed.{Prints};
 ghost use Rattle.answer.specs.Shown.{Printable, Lines, Ready, PrintsModel};
 use codec::Step;
-use model::Model;
+use model::Outline;
+use model::places;
 use numbers::Refusal;
 use runs::Verdict;
 
@@ -29,12 +31,13 @@ fn lines(area: &[i32], n: usize, i: usize, text: &mut [u8], at: usize) -> usize
 }
 
 // Walks a model and writes its text: the first line, and under REACHED the lines of the path.
-fn print(model: Model, area: &mut [i32], text: &mut [u8]) -> usize
-    requires { ⌜ Ready model (now text) ⌝ }
-    ensures { λ r. ⌜ PrintsModel model (now (area .entry)) (now (text .entry)) (now (area .exit)) (now (text .exit)) r ⌝ }
+fn print(bytes: &[u8], outline: Outline, area: &mut [i32], text: &mut [u8]) -> usize
+    requires { ⌜ Ready (now bytes) outline (now text) ⌝ }
+    ensures { λ r. ⌜ PrintsModel (modelBy (now (bytes .entry)) outline) (now (area .entry)) (now (text .entry))
+        (now (area .exit)) (now (text .exit)) r ⌝ }
 {
-    let n = model.clocks as usize;
-    let v = walk::walk_model(model, &mut *area);
+    let n = outline.clocks as usize;
+    let v = walk::walk_outline(bytes, outline, &mut *area);
     let at = printing::head(&mut *text, v);
     let Verdict::Reached {
         edges: _,
@@ -55,12 +58,12 @@ pub fn answer(bytes: &[u8], area: &mut [i32], text: &mut [u8]) -> Printed
     if text.len() < 397 {
         return Printed::Refused(Refusal::Shape);
     }
-    let reading = model::read(bytes);
-    let step = reading.step;
-    let model = reading.model;
+    let r = places::read_outline(bytes);
+    let step = r.step;
+    let outline = r.outline;
     let Step::At(_) = step else {
         return Printed::Text(printing::head(&mut *text, Verdict::Refused(step.why())));
     };
-    let end = print(model, &mut *area, &mut *text);
+    let end = print(bytes, outline, &mut *area, &mut *text);
     Printed::Text(end)
 }

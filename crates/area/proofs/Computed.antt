@@ -1,10 +1,10 @@
 -- The state area, computed: room, records, and what an ending leaves.
-use mathlib.Core.List.{List, [], _∷_, _++_}
+use mathlib.Core.List.{[], _∷_, _++_}
 use mathlib.Core.Path.{_≡_, refl}
-use lib.IntN.{ℤ, pos, negsuc}
+use lib.IntN.{pos, negsuc}
 use lib.ListN.{replicate}
 use Rattle.numbers.specs.declared.Refusal.the-variants.{Room}
-use Rattle.runs.specs.Rule.{Ending, ends-never, ends-refused, nothing}
+use Rattle.runs.specs.Rule.{ends-never, ends-refused, nothing}
 use Rattle.area.specs.Area.{recordSize, recordOf, recordsOf, holding, roomOf, areaAfter}
 use Rattle.area.specs.Records.{state}
 

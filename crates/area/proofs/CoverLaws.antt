@@ -1,5 +1,5 @@
 -- Laws of the loop that looks for a kept state that includes a list.
-use mathlib.Core.Bool.{Bool, true, false, _&&_, _||_}
+use mathlib.Core.Bool.{Bool, true, false, _||_}
 use mathlib.Core.List.{List, [], _∷_, _++_}
 use mathlib.Core.Path.{_≡_, refl, sym, ap, _∙_, subst}
 use Prim.Native.Nat.{ℕ, zero, suc, _+_, _<_}
@@ -56,10 +56,12 @@ module _ (n q : ℕ) (l area : List ℤ) where
   unfolding statesIn
   states-snoc i = covered-snoc n q l (statesIn n i area) (stateIn n area i)
 
+  -- none of the first 0 states includes the list
   pub none-start : None 0
   unfolding statesIn covered
   none-start = refl
 
+  -- nor does one more state that does not
   pub none-next : (i : ℕ) (r : Bool) → None i → r ≡ coversBy n q l (stateIn n area i) → r ≡ false → None (i + 1)
   none-next i r h e f =
       rw add-one (states-snoc i ∙ (ap (λ a. a || coversBy n q l (stateIn n area i)) h ∙ (sym e ∙ f)))
@@ -77,6 +79,7 @@ module _ (n q : ℕ) (l area : List ℤ) where
           let k : i ≡ m = omega (arith, a) in
           subst (λ (k : ℕ). covered n (statesIn n (suc k) area) q l ≡ true) k e
 
+  -- one that does is found
   pub some-next : (i m : ℕ) (r : Bool) → i < m → None i → r ≡ coversBy n q l (stateIn n area i) → r ≡ true
       → true ≡ covered n (statesIn n m area) q l
   some-next i m r b h e f = sym (some-more i m b

@@ -1,6 +1,6 @@
 -- Words of an area that holds the records of kept states.
 use mathlib.Core.List.{List, [], _∷_, _++_, append-assoc}
-use mathlib.Core.Path.{_≡_, refl, sym, ap, _∙_}
+use mathlib.Core.Path.{_≡_, sym, ap, _∙_}
 use Prim.Native.Nat.{ℕ, zero, suc, _+_, _*_, _≤_, _<_}
 use native.Mathlib.Nat.{suc-mul, zero-mul}
 use native.Mathlib.Omega.{arith}
@@ -53,11 +53,13 @@ module _ (n : ℕ) (kept : List State) (whole : AllWhole n kept) (area : List �
   holding-parent = let (more, e) = records-from n kept whole (drop (length kept * recordSize n) area) i inside in
       sym (getD-drop (i * recordSize n) (holding n kept area) 1 (pos 0)) ∙ ap (λ (l : List ℤ). getD l 1 (pos 0)) e
 
+  -- word 2 of record i is its edge
   pub holding-edge : getD (holding n kept area) (i * recordSize n + 2) (pos 0) ≡ stateAt kept i .edge
   unfolding holding recordOf
   holding-edge = let (more, e) = records-from n kept whole (drop (length kept * recordSize n) area) i inside in
       sym (getD-drop (i * recordSize n) (holding n kept area) 2 (pos 0)) ∙ ap (λ (l : List ℤ). getD l 2 (pos 0)) e
 
+  -- word 0 is its location
   pub holding-location : getD (holding n kept area) (i * recordSize n + 0) (pos 0) ≡ pos (stateAt kept i .location)
   unfolding holding recordOf
   holding-location = let (more, e) = records-from n kept whole (drop (length kept * recordSize n) area) i inside in

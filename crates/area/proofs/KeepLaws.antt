@@ -7,25 +7,24 @@ use native.Mathlib.Nat.{suc-mul, zero-mul, mul-le-mul-right}
 use native.Mathlib.Numerals.{add-one}
 use native.Mathlib.Omega.{arith}
 use lib.IntN.{ℤ, pos}
-use lib.ListN.{length, set, getD, take, drop, replicate, length-append, length-drop, length-replicate, take-append-drop}
+use lib.ListN.{length, set, take, drop, replicate, length-append, length-drop, length-replicate, take-append-drop}
 use lib.ListN.{replicate-append-replicate}
-use lib.Seq.{take-suc-set, take-all, drop-at, take-at, take-append-le, drop-append-le, take-take, drop-drop, length-take-le}
-use lib.Seq.{take-length, drop-append-add, take-add, getD-append-seam}
-use lib.ListN.{List·getD-append}
+use lib.Seq.{take-suc-set, take-all, drop-at, take-at, take-append-le, drop-append-le, length-take-le}
+use lib.Seq.{take-length, drop-append-add, take-add}
 use mir.Syntax.{w32}
 use mir.Val.{toZ, ofZ, SFits}
 use mir.Facts.{toZ-ofZ}
-use borrow.Author.Needs.{sfits-of}
 use borrow.Rule.Slice.PartMut.{putMid}
 use Rattle.algebra.specs.Vectors.{count}
 use Rattle.sets.specs.Limits.{Whole}
 use Rattle.sorting.specs.Rows.{put}
+use Rattle.making.proofs.PushLaws.{put-mid}
 use Rattle.runs.specs.Rule.{State, stateAt}
 use Rattle.runs.proofs.ProperLists.{Proper}
 use Rattle.runs.proofs.Paths.{at-old, at-new}
 use Rattle.area.specs.Area.{recordSize, recordOf, recordsOf, holding}
 use Rattle.area.specs.Records.{written, kept, state, recordAt, stateOf, stateIn, statesIn, Stands, Recorded}
-use Rattle.area.proofs.RecordLaws.{size-is, record-size, state-back, row-in, list-fits}
+use Rattle.area.proofs.RecordLaws.{size-is, record-size, state-back, list-fits}
 
 -- ---- every word 0
 -- one word more is 0
@@ -34,6 +33,7 @@ pub zero-next : (l : List ℤ) (j : ℕ) → j < length l → take j l ≡ repli
 zero-next l j h e = rw add-one (take-suc-set l j (pos 0) h ∙ ap (λ x. x ++ (pos 0 ∷ [])) e
     ∙ replicate-append-replicate j 1 (pos 0) ∙ rw add-one)
 
+-- all words are 0 where the loop ends
 pub zero-done : (l d : List ℤ) (j : ℕ) → length l ≡ length d → length l ≤ j → j ≤ length d
     → take j l ≡ replicate j (pos 0) → l ≡ replicate (length d) (pos 0)
 zero-done l d j n h k e =
@@ -74,17 +74,14 @@ write-seen size z cp l {a} {b} {c} {d} fa fb fc fd h e f = rw (toZ-ofZ fa, toZ-o
 
 -- the lent part put back
 pub put-back : (area v : List ℤ) (a b w : ℕ) → b ≡ a + w → putMid a (b - a) area v ≡ put area a v w
-unfolding put
 put-back area v a b w e =
-    let k : b - a ≡ w = omega (arith, e) in
-    ap (λ (x : ℕ). take a area ++ (v ++ drop x (drop a area))) k
-    ∙ (ap (λ (l : List ℤ). take a area ++ (v ++ l)) (drop-drop w a area)
-    ∙ sym (append-assoc (take a area) v (drop (a + w) area)))
+    let k : b - a ≡ w = omega (arith, e) in ap (λ (x : ℕ). putMid a x area v) k ∙ put-mid area v a w
 
 -- ---- record k of an area, with the size in a local
 pub row-room : (n k r : ℕ) {len : ℕ} → r ≡ recordSize n → suc k * recordSize n ≤ len → k * r + r ≤ len
 row-room n k r q h = rw q (omega (arith, h, suc-mul k (recordSize n)))
 
+-- the record's part has room for the list
 pub part-room : (n : ℕ) (area : List ℤ) (k r : ℕ) (l : List ℤ) → r ≡ recordSize n → suc k * recordSize n ≤ length area
     → Whole n l → 4 + length l ≤ length (take (k * r + r - k * r) (drop (k * r) area))
 part-room n area k r l q h w =
@@ -93,10 +90,6 @@ part-room n area k r l q h w =
     let m : length (take (k * r + r - k * r) (drop (k * r) area)) ≡ r
     = length-take-le _ (drop (k * r) area) (simp length-drop (omega arith)) ∙ e in
     omega (arith, m, q, size-is n, list-fits n l w)
-
--- a small number as a word
-pub word-is : (x : ℕ) → x < 2147483648 → toZ w32 x ≡ pos x
-word-is x h = toZ-ofZ {w = w32} {z = pos x} (sfits-of h)
 
 -- a record written into its part of the area
 pub keep-law : (n : ℕ) (area v : List ℤ) (k r location : ℕ) (parent edge : ℤ) (l : List ℤ) (a b c d : ℤ)
@@ -137,12 +130,14 @@ module _ (n : ℕ) (area : List ℤ) (k : ℕ) (s : State) (room : suc k * recor
   unfolding kept put
   shape = append-assoc (take at area) (recordOf n s) (drop (at + size) area)
 
+  -- record k is the new one
   pub kept-new : recordAt n after k ≡ recordOf n s
   unfolding recordAt
   kept-new = ap (λ l. take size (drop at l)) shape
       ∙ (ap (take size) (drop-at (take at area) (recordOf n s ++ drop (at + size) area) at front)
       ∙ take-at (recordOf n s) (drop (at + size) area) size (record-size n s whole))
 
+  -- the records before it are as they were
   pub kept-old : (i : ℕ) → i < k → recordAt n after i ≡ recordAt n area i
   unfolding recordAt
   kept-old i h =
@@ -157,6 +152,7 @@ module _ (n : ℕ) (area : List ℤ) (k : ℕ) (s : State) (room : suc k * recor
       ∙ (ap (take size) (sym (drop-append-le a (take at area) (drop at area) (omega (arith, front))))
       ∙ ap (λ l. take size (drop a l)) (take-append-drop at area)))))
 
+  -- and so are the words behind it
   pub kept-behind : drop (suc k * size) after ≡ drop (suc k * size) area
   kept-behind =
       let next : at + size ≡ suc k * size = omega (arith, suc-mul k size) in
@@ -174,11 +170,13 @@ module _ (n : ℕ) (area : List ℤ) (k : ℕ) (s : State) (room : suc k * recor
   states-old (suc m) h = ap (λ l. l ++ (stateIn n after m ∷ [])) (states-old m (omega arith))
       ∙ ap (λ r. statesIn n m area ++ (stateOf n r ∷ [])) (kept-old m h)
 
+  -- the states then are those before and the new one
   pub states-new : statesIn n (suc k) after ≡ statesIn n k area ++ (s ∷ [])
   unfolding statesIn
   states-new = ap (λ l. l ++ (stateIn n after k ∷ [])) (states-old k (omega arith))
       ∙ ap (λ z. statesIn n k area ++ (z ∷ [])) (ap (stateOf n) kept-new ∙ state-back n s whole)
 
+  -- the first k + 1 records stand
   pub recorded-new : length after ≡ length area → Proper n (s .list) → Recorded n k area → Recorded n (suc k) after
   recorded-new e p h i l = by (decLt i k)
     where
@@ -206,6 +204,7 @@ states-many n zero area = refl
 states-many n (suc k) area =
     omega (arith, length-append (statesIn n k area) (stateIn n area k ∷ []), states-many n k area)
 
+-- state i of the states read back is that of record i
 pub states-at : (n k : ℕ) (area : List ℤ) (i : ℕ) → i < k → stateAt (statesIn n k area) i ≡ stateIn n area i
 unfolding statesIn
 states-at n zero area i h = absurd (omega arith)
@@ -228,6 +227,7 @@ records-append n [] s = mathlib.Core.List.append-nil (recordOf n s)
 records-append n (t ∷ ss) s = ap (λ l. recordOf n t ++ l) (records-append n ss s)
     ∙ sym (append-assoc (recordOf n t) (recordsOf n ss) (recordOf n s))
 
+-- the records of the states read back are the words of the area
 pub records-are : (n k : ℕ) (area : List ℤ) → Recorded n k area
     → recordsOf n (statesIn n k area) ≡ take (k * recordSize n) area
 unfolding statesIn recordsOf recordAt

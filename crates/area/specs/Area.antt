@@ -8,7 +8,7 @@ use lib.ListN.{length, drop, replicate}
 use Rattle.algebra.specs.Vectors.{count}
 use Rattle.runs.specs.Rule.{State, Ending, ends-reached, ends-never, ends-open, ends-refused}
 
--- the words of a record over n clocks
+-- how many words a record over n clocks has
 unfoldable pub recordSize : ℕ → ℕ
 recordSize n = 4 + 32 * suc n
 

@@ -1,8 +1,8 @@
--- Kept states read back from the area.
+-- Kept states, written into the area and read back from it.
 use mathlib.Core.Bool.{Bool, _&&_}
 use mathlib.Core.List.{List, [], _∷_, _++_}
 use mathlib.Core.Path.{_≡_}
-use Prim.Native.Nat.{ℕ, zero, suc, _+_, _-_, _*_, _≤_, _<_}
+use Prim.Native.Nat.{ℕ, zero, suc, _-_, _*_, _≤_, _<_}
 use lib.Dec.{eqb}
 use lib.IntN.{ℤ, pos, natAbs}
 use lib.ListN.{length, take, drop, getD, replicate}

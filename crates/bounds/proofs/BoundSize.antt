@@ -1,16 +1,14 @@
 -- How many bytes bounds and lists of bounds take at most.
-use mathlib.Core.Bool.{Bool, true, false, cond}
-use Prim.Native.Nat.{ℕ, _+_, _*_, _≤_, _<_}
+use Prim.Native.Nat.{ℕ, _≤_}
 use native.Mathlib.Omega.{arith}
 use lib.Dec.{eqb}
 use lib.IntN.{pos}
-use Rattle.codec.specs.Form.{Form, fault, array}
 use Rattle.codec.proofs.FormSize.{
   Takes,
   gives,
-  faults,
   Any,
   takes-ask,
+  takes-either,
   mostBytes,
   most-one,
   takes-more,
@@ -39,18 +37,13 @@ module _ (n : ℕ) (small : n ≤ 6) where
       takes-ask 42 n 3 (omega (arith, most-one n (omega arith))) (omega arith)
       (λ x l. takes-ask 3 1000001 0 (omega arith) (omega arith) (λ k h. gives tt))
 
-  either : {A : Type 0} {Q : A → Type 0} {σ c : ℕ} {F : Form A} (b : Bool) → Takes Q σ c F → Takes Q σ c
-      (cond b fault F)
-  either true w = faults
-  either false w = w
-
   takes-differ : (kind : Kind) → Takes Any 2 42 (differForm n kind)
   unfolding differForm mostBytes
   takes-differ kind =
       takes-ask 42 n 4 (omega (arith, most-one n (omega arith))) (omega arith)
       (λ x l.
       takes-ask 4 n 3 (omega (arith, most-one n (omega arith))) (omega arith)
-      (λ y h. either (eqb x y) (takes-ask 3 2000001 0 (omega arith) (omega arith) (λ k j. gives tt))))
+      (λ y h. takes-either (eqb x y) (takes-ask 3 2000001 0 (omega arith) (omega arith) (λ k j. gives tt))))
 
   takes-entry : Takes Any 2 3 entryForm
   unfolding entryForm mostBytes

@@ -1,17 +1,16 @@
 -- The round trip of bounds and of lists of bounds.
 use mathlib.Core.Bool.{Bool, true, false, cond}
-use mathlib.Core.List.{List, [], _∷_, _++_, append-assoc}
+use mathlib.Core.List.{List, _++_, append-assoc}
 use mathlib.Core.Path.{_≡_, refl, sym, ap, _∙_, subst}
-use Prim.Native.Nat.{ℕ, zero, suc, _+_, _-_, _*_, _≤_, _<_}
-use native.Mathlib.Decide.{ℕ-discrete}
+use Prim.Native.Nat.{ℕ, zero, suc, _≤_, _<_}
 use native.Mathlib.Omega.{arith}
-use borrow.Author.Tests.{eq-eqb, ne-eqb, eqb-false}
+use borrow.Author.Tests.{ne-eqb, eqb-false}
 use lib.Dec.{eqb}
 use lib.IntN.{ℤ, pos, negsuc, natAbs}
 use lib.ListN.{take}
 use Rattle.numbers.specs.Integers.{_⊑_}
 use Rattle.codec.specs.Number.{got, bytesOf, folded, unfolded}
-use Rattle.codec.specs.Form.{Form, done, ask, fault, readIn, array, _>>=_}
+use Rattle.codec.specs.Form.{done, ask, fault, readIn, array}
 use Rattle.codec.specs.Arrays.{AreBytes, Packed, each}
 use Rattle.codec.proofs.FoldLaws.{fold-unfold, unfold-fold}
 use Rattle.codec.proofs.FormLaws.{Finds, finished, after}
@@ -21,7 +20,6 @@ use Rattle.bounds.specs.declared.Kind.the-variants.{AtMost, AtLeast, Dif
 use Rattle.bounds.specs.declared.Bound.{Bound}
 use Rattle.bounds.specs.declared.Bounds.{Bounds}
 use Rattle.bounds.specs.Bounds.{
-  kindNumber,
   kindOf,
   entryCount,
   noHalf,
@@ -43,16 +41,8 @@ use Rattle.bounds.specs.Limits.{
   BoundLimits,
   BoundsLimits,
 }
-use Rattle.bounds.specs.Written.{
-  entryBytes,
-  plainBytes,
-  differBytes,
-  halfBytes,
-  kindBytes,
-  boundBytes,
-  boundsBytes,
-}
-use Rattle.bounds.proofs.LimitLaws.{same-bound, abs-small, fold-small, not-negative, fits-as, bytes-as}
+use Rattle.bounds.specs.Written.{entryBytes, kindBytes, boundBytes, boundsBytes}
+use Rattle.bounds.proofs.LimitLaws.{same-bound, abs-small, fold-small, not-negative, bytes-as}
 use Rattle.bounds.proofs.EntryTrip.{unfold-small, codes-entry}
 
 -- ---- integers in limits

@@ -2,17 +2,17 @@
 use mathlib.Core.Bool.{Bool, true, false, cond}
 use mathlib.Core.List.{List, _++_}
 use mathlib.Core.Path.{_≡_, refl, sym, ap, _∙_, subst}
-use Prim.Native.Nat.{ℕ, zero, suc, _+_, _-_, _*_, _/_, _%_, _≤_, _<_}
+use Prim.Native.Nat.{ℕ, zero, suc, _+_, _-_, _%_, _≤_, _<_}
 use native.Mathlib.Decide.{ℕ-discrete}
 use native.Mathlib.Omega.{arith}
 use borrow.Author.Tests.{eq-eqb, ne-eqb, eqb-true}
 use lib.Dec.{eqb}
 use lib.IntN.{ℤ, pos, negsuc, natAbs}
-use Rattle.numbers.specs.Numbers.{Num, −∞, fin, Within}
-use Rattle.numbers.specs.Words.{mark, isMark, number}
+use Rattle.numbers.specs.Numbers.{−∞, fin, Within}
+use Rattle.numbers.specs.Words.{number}
 use Rattle.numbers.proofs.WordLaws.{number-mark}
 use Rattle.codec.specs.Number.{got, bytesOf, folded, unfolded}
-use Rattle.codec.specs.Form.{done, readIn}
+use Rattle.codec.specs.Form.{readIn}
 use Rattle.codec.specs.Arrays.{AreBytes}
 use Rattle.codec.proofs.FoldLaws.{fold-unfold, unfold-fold}
 use Rattle.codec.proofs.FormLaws.{Finds, finished}
@@ -28,6 +28,7 @@ unfolding number
 number-small (pos n) h = refl
 number-small (negsuc n) h = rw (ne-eqb n 2147483647 (λ e. omega arith)) refl
 
+-- what is unfolded is at most 1,000,000 in size
 pub unfold-small : (v : ℕ) → v ≤ 2000000 → natAbs (unfolded v) ≤ 1000000
 unfold-small v h = by-half (ℕ-discrete (v % 2) 0)
   where
@@ -35,6 +36,7 @@ unfold-small v h = by-half (ℕ-discrete (v % 2) 0)
     by-half (yes e) = rw (eq-eqb (v % 2) 0 e) (omega arith)
     by-half (no n) = rw (ne-eqb (v % 2) 0 n) (omega arith)
 
+-- such an integer is a number within 1,000,000
 pub small-near : (z : ℤ) → natAbs z ≤ 1000000 → Within 1000000 (fin z)
 small-near (pos n) h = record { near = (h, omega arith) }
 small-near (negsuc n) h = record { near = (omega arith, h) }
@@ -66,6 +68,7 @@ entry-wrote (suc v) h =
     subst (λ (z : ℤ). EntryLimits z × (entryNumber (number z) ≡ suc v)) (sym (entry-suc v))
     (rw (number-small (unfolded v) small) (small-near (unfolded v) small, rw (unfold-fold v) (omega arith)))
 
+-- an entry's bytes are read as it, and only they
 pub codes-entry : Codes entryForm EntryLimits entryBytes
 unfolding entryForm entryBytes readIn
 codes-entry = record { there = to; back = from }

@@ -1,6 +1,6 @@
 -- Bounds and lists of bounds: the numbers of their kinds, and their form in bytes.
 use mathlib.Core.Bool.{cond}
-use mathlib.Core.List.{List, [], _∷_}
+use mathlib.Core.List.{List, []}
 use Prim.Native.Nat.{ℕ, _+_, _-_, _*_}
 use lib.Dec.{eqb}
 use lib.IntN.{ℤ, pos}
@@ -51,6 +51,7 @@ noBounds = record { count = 0; items = noItems }
 abbrev pub entryOf : ℕ → ℤ
 entryOf v = cond (eqb v 0) mark (unfolded (v - 1))
 
+-- an entry's form
 unfoldable pub entryForm : Form ℤ
 entryForm = ask 2000002 (λ v. done (entryOf v))
 
@@ -76,6 +77,7 @@ halfForm n =
     array 14 (pos 0) (entryCount n) entryForm >>= λ h.
     done (record { kind = HalfSpace; x = 0; y = 0; k = pos 0; half = h })
 
+-- what follows a kind
 abbrev pub kindForm : ℕ → Kind → Form Bound
 kindForm n AtMost = plainForm n AtMost
 kindForm n AtLeast = plainForm n AtLeast

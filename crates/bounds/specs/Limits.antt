@@ -1,5 +1,4 @@
 -- The limits of bounds and of lists of bounds. What a kind or a count leaves unused is 0.
-use mathlib.Core.List.{List}
 use mathlib.Core.Path.{_≡_}
 use Prim.Native.Nat.{ℕ, _<_}
 use lib.IntN.{ℤ, pos, negsuc}
@@ -41,6 +40,7 @@ pub record HalfLimits (n : ℕ) (b : Bound) : Type 0 where
   pub no-k : b .k ≡ pos 0
   pub entries : Packed EntryLimits (pos 0) 14 (entryCount n) (b .half)
 
+-- the limits of a bound of a kind
 abbrev pub KindLimits : ℕ → Bound → Kind → Type 0
 KindLimits n b AtMost = PlainLimits n b
 KindLimits n b AtLeast = PlainLimits n b

@@ -1,11 +1,11 @@
 -- Reading into an array, item by item.
 use mathlib.Core.List.{List, [], _∷_, _++_, append-assoc, append-nil}
 use mathlib.Core.Path.{_≡_, refl, sym, ap, _∙_, subst}
-use Prim.Native.Nat.{ℕ, zero, suc, _+_, _-_, _≤_, _<_}
+use Prim.Native.Nat.{ℕ, suc, _+_, _-_, _≤_, _<_}
 use native.Mathlib.Nat.{sub-zero}
 use native.Mathlib.Numerals.{add-one}
 use native.Mathlib.Omega.{arith}
-use lib.ListN.{length, set, take, drop, replicate, length-set, length-replicate, length-take, take-append-drop}
+use lib.ListN.{length, set, take, drop, replicate, length-set, length-replicate, take-append-drop}
 use lib.Seq.{take-suc-set, drop-set-lt, drop-drop, length-take-le}
 use Rattle.codec.specs.Number.{Got, got, refused}
 use Rattle.codec.specs.Form.{Form, done, readIn, _>>=_, many, padded, array}
@@ -48,6 +48,7 @@ pub record Filling {A : Type 0} (F : Form A) (blank : A) (size count : ℕ) (sta
   pub same : readIn (many count F) start ≡ behind (take i xs) (readIn (many (count - i) F) rest)
 
 module _ {A : Type 0} {F : Form A} {blank : A} {size count : ℕ} {start : List ℕ} where
+  -- before the first item
   pub fill-start : Filling F blank size count start (replicate size blank) 0 start
   fill-start =
       record {
@@ -58,6 +59,7 @@ module _ {A : Type 0} {F : Form A} {blank : A} {size count : ℕ} {start : List 
       }
 
   module _ {xs : List A} {i : ℕ} {rest : List ℕ} (w : Filling F blank size count start xs i rest) where
+    -- one item more
     pub fill-step : {a : A} {t : List ℕ} → count ≤ size → i < count → Finds F rest (got a t)
         → Filling F blank size count start (set xs i a) (i + 1) t
     fill-step {a} {t} c l f =
@@ -79,6 +81,7 @@ module _ {A : Type 0} {F : Form A} {blank : A} {size count : ℕ} {start : List 
               ∙ ap (λ (ys : List A). behind ys (readIn (many (count - (i + 1)) F) t)) (sym passed);
         }
 
+    -- an item is refused
     pub fill-stop : {e : ℕ} → i < count → Finds F rest (refused e) → Finds (array size blank count F) start
         (refused e)
     fill-stop {e} l f =
@@ -86,6 +89,7 @@ module _ {A : Type 0} {F : Form A} {blank : A} {size count : ℕ} {start : List 
         let none : readIn (many (count - i) F) rest ≡ refused e = rw left (many-stop F (count - (i + 1)) f) in
         stops (many count F) _ (record { is = w .same ∙ ap (behind (take i xs)) none })
 
+    -- after the last item
     pub fill-done : count ≤ size → count ≤ i → Finds (array size blank count F) start (got xs rest)
     unfolding many readIn
     fill-done c l =

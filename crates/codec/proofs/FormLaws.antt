@@ -1,11 +1,11 @@
 -- Laws of reading by a form.
 use mathlib.Core.Bool.{Bool, true, false, cond}
-use mathlib.Core.List.{List, [], _∷_, _++_}
+use mathlib.Core.List.{List}
 use mathlib.Core.Path.{_≡_, refl, sym, ap, _∙_, subst}
-use Prim.Native.Nat.{ℕ, zero, suc, _+_, _-_, _≤_, _<_}
+use Prim.Native.Nat.{ℕ, _≤_, _<_}
 use native.Mathlib.Omega.{arith}
 use lib.Dec.{ltb}
-use lib.ListN.{length, drop}
+use lib.ListN.{drop}
 use borrow.Author.Tests.{lt-ltb, le-ltb, ltb-true}
 use Rattle.numbers.specs.Refusals.{refusalNumber}
 use Rattle.numbers.specs.declared.Refusal.{Refusal}
@@ -15,15 +15,17 @@ use Rattle.codec.specs.declared.Number.the-variants.{Value, Refused}
 use Rattle.codec.specs.declared.Step.{Step}
 use Rattle.codec.specs.declared.Step.the-variants.{At, Refused as Stopped}
 use Rattle.codec.specs.Number.{Got, got, refused, numberIn}
-use Rattle.codec.specs.Form.{Form, done, ask, fault, below, readIn, _>>=_, many}
-use Rattle.codec.specs.Answers.{ReadsNumber, numberSaid, Inside, Reads, Refuses, stepSaid, whyNumber, whyStep}
+use Rattle.codec.specs.Form.{Form, done, ask, fault, below, readIn, _>>=_}
+use Rattle.codec.specs.Answers.{ReadsNumber, numberSaid, Inside, Reads, Refuses, stepSaid}
 
 -- ---- a number below a limit
 module _ (s t : List ℕ) (m : ℕ) {r : Number} (h : ReadsNumber s (numberIn t) r) where
+  -- no number is read
   pub not-read : (e : Refusal) → r ≡ Refused e → ReadsNumber s (readIn (ask m (λ v. done v)) t) r
   unfolding readIn
   not-read e q = record { said = rw (← h .said) (rw q refl); inside = h .inside }
 
+  -- a number below the limit is read
   pub kept : (v n : ℕ) → r ≡ Value v n → v < m → ReadsNumber s (readIn (ask m (λ v. done v)) t) (Value v n)
   unfolding readIn
   kept v n q l =
@@ -33,6 +35,7 @@ module _ (s t : List ℕ) (m : ℕ) {r : Number} (h : ReadsNumber s (numberIn t)
             subst (λ (x : Number). Inside s x) q (h .inside);
       }
 
+  -- a number that is not below it is refused MODEL
   pub over : (v n : ℕ) → r ≡ Value v n → m ≤ v → ReadsNumber s (readIn (ask m (λ v. done v)) t) (Refused Model)
   unfolding readIn
   over v n q l = record { said = rw (← h .said) (rw q (rw (le-ltb _ _ l) refl)); inside = tt }
@@ -59,6 +62,7 @@ limited {A} {B} m j k h (got v t) = by-test (ltb v m)
     by-test true = h v t
     by-test false = refl
 
+-- one form after another is read by the first, and what is left by the second
 pub read-then : {A B : Type 0} (F : Form A) (k : A → Form B) (s : List ℕ)
     → readIn (F >>= k) s ≡ onto (λ a t. readIn (k a) t) (readIn F s)
 unfolding readIn _>>=_
@@ -66,6 +70,7 @@ read-then (done a) k s = refl
 read-then fault k s = refl
 read-then (ask m j) k s = limited m j k (λ v t. read-then (j v) k t) (numberIn s)
 
+-- a form that asks nothing finds its value
 pub finished : {A : Type 0} {a : A} {s : List ℕ} → Finds (done a) s (got a s)
 unfolding readIn
 finished = record { is = refl }
@@ -75,26 +80,31 @@ pub after : {A B : Type 0} (F : Form A) (k : A → Form B) {s t : List ℕ} {a :
     → Finds F s (got a t) → Finds (k a) t g → Finds (F >>= k) s g
 after F k {s} e f = record { is = read-then F k s ∙ ap (onto (λ a t. readIn (k a) t)) (e .is) ∙ f .is }
 
+-- a refusal by the first form is that of both
 pub stops : {A B : Type 0} (F : Form A) (k : A → Form B) {s : List ℕ} {e : ℕ}
     → Finds F s (refused e) → Finds (F >>= k) s (refused e)
 stops F k {s} e = record { is = read-then F k s ∙ ap (onto (λ a t. readIn (k a) t)) (e .is) }
 
 -- the same where a number is asked for
 module _ {A : Type 0} {m : ℕ} {k : ℕ → Form A} {s : List ℕ} where
+  -- a number is found, and then what follows it
   pub asked : {v : ℕ} {t : List ℕ} {g : Got A}
       → Finds (ask m (λ v. done v)) s (got v t) → Finds (k v) t g → Finds (ask m k) s g
   unfolding _>>=_
   asked e f = after (ask m (λ v. done v)) k e f
 
+  -- no number is found
   pub unasked : {e : ℕ} → Finds (ask m (λ v. done v)) s (refused e) → Finds (ask m k) s (refused e)
   unfolding _>>=_
   unasked e = stops (ask m (λ v. done v)) k e
 
 -- what an answer that is a number found, by its case
 module _ {s t : List ℕ} {F : Form ℕ} {r : Number} (h : ReadsNumber s (readIn F t) r) where
+  -- code read a number: the form finds it
   pub valued : {v n : ℕ} → r ≡ Value v n → Finds F t (got v (drop n s))
   valued q = record { is = sym (h .said) ∙ ap (numberSaid s) q }
 
+  -- code was refused: so is the form
   pub unvalued : {e : Refusal} → r ≡ Refused e → Finds F t (refused (refusalNumber e))
   unvalued q = record { is = sym (h .said) ∙ ap (numberSaid s) q }
 
@@ -104,6 +114,7 @@ pub refuses-number : {s t : List ℕ} {F : Form ℕ} {r : Number} {e : Refusal} 
 refuses-number {s} f q =
     record { said = ap (numberSaid s) q ∙ sym (f .is); inside = subst (λ (x : Number). Inside s x) (sym q) tt }
 
+-- a number that the form finds is a right answer
 pub gives-number : {s t : List ℕ} {F : Form ℕ} {v n : ℕ} → Finds F t (got v (drop n s)) → Inside s (Value v n)
     → ReadsNumber s (readIn F t) (Value v n)
 gives-number f l = record { said = sym (f .is); inside = l }
@@ -126,9 +137,11 @@ found-below {m} {v} {s} {t} f = by-number (numberIn s) (f .is)
 module _ {A : Type 0} {s t : List ℕ} {F : Form A} {blank a : A} {step : Step} where
   -- what an answer found, by its case
   module _ (h : Reads s blank (readIn F t) step a) where
+    -- code read a value: the form finds it
     pub stepped : {n : ℕ} → step ≡ At n → Finds F t (got a (drop n s))
     stepped q = record { is = sym (h .said) ∙ ap (λ (x : Step). stepSaid s x a) q }
 
+    -- code was refused: so is the form
     pub unstepped : {e : Refusal} → step ≡ Stopped e → Finds F t (refused (refusalNumber e))
     unstepped q = record { is = sym (h .said) ∙ ap (λ (x : Step). stepSaid s x a) q }
 
@@ -150,10 +163,6 @@ giving f = record { said = sym (f .is); beside = λ e q. absurd (let z : _≡_ {
 pub likewise : {A : Type 0} {s t : List ℕ} {F : Form A} {blank a : A} {g : Got A} {step : Step}
     → Reads s blank g step a → Finds F t g → Reads s blank (readIn F t) step a
 likewise h f = record { said = h .said ∙ sym (f .is); beside = h .beside }
-
--- what a form finds by itself
-pub itself : {A : Type 0} (F : Form A) (s : List ℕ) → Finds F s (readIn F s)
-itself F s = record { is = refl }
 
 -- a fault is refused MODEL
 pub faulty : {A : Type 0} {s : List ℕ} → Finds {A = A} fault s (refused (refusalNumber Model))

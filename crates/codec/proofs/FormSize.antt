@@ -13,14 +13,16 @@ use borrow.Author.Tests.{lt-ltb, le-ltb, le-leb, lt-leb, ltb-true, ltb-false, eq
 use Rattle.numbers.specs.Refusals.{refusalNumber}
 use Rattle.numbers.specs.declared.Refusal.the-variants.{Bytes, Model}
 use Rattle.codec.specs.Number.{Got, got, refused, numberIn, second, third}
-use Rattle.codec.specs.Form.{Form, done, ask, fault, below, readIn, _>>=_, many, padded, array}
+use Rattle.codec.specs.Form.{Form, done, ask, fault, below, readIn, _>>=_, many, array}
 use Rattle.codec.proofs.FormLaws.{Finds}
+use Rattle.codec.proofs.NumberTrip.{refusal-no}
 use Rattle.codec.proofs.FormTrip.{same-got}
 
 -- the most bytes that a number below m has
 unfoldable pub mostBytes : ℕ → ℕ
 mostBytes m = cond (leb m 128) 1 (cond (leb m 16384) 2 3)
 
+-- a number below a limit of at most 128 takes one byte
 pub most-one : (m : ℕ) → m ≤ 128 → mostBytes m ≡ 1
 unfolding mostBytes
 most-one m h = rw (le-leb m 128 h) refl
@@ -57,10 +59,6 @@ record Read (s : List ℕ) (v : ℕ) (t : List ℕ) : Type 0 where
   took : ℕ
   right : Took v took
   long : length s ≡ took + length t
-
--- no value is a refusal
-refusal-no : {v e : ℕ} {t : List ℕ} → refused e ≡ got v t → ⊥
-refusal-no e = let z : _≡_ {A = ℕ} 0 1 = cc in omega arith
 
 module _ (v : ℕ) (t : List ℕ) where
   read-third : (low c : ℕ) (s : List ℕ) → third low (c ∷ s) ≡ got v t → (16384 ≤ v) × (length s ≡ length t)
@@ -136,11 +134,19 @@ pub takes-ask : {A : Type 0} {Q : A → Type 0} {σ : ℕ} (c m d : ℕ) {k : �
     → ((v : ℕ) → v < m → Takes Q σ d (k v)) → Takes Q σ c (ask m k)
 takes-ask c m d h r w = asks d h r w
 
+-- a form that is at fault where a test passes
+pub takes-either : {A : Type 0} {Q : A → Type 0} {σ c : ℕ} {F : Form A} (b : Bool) → Takes Q σ c F
+    → Takes Q σ c (cond b fault F)
+takes-either true w = faults
+takes-either false w = w
+
+-- what takes at most c bytes takes at most d, if c is at most d
 pub takes-more : {A : Type 0} {Q : A → Type 0} {σ : ℕ} {F : Form A} {c d : ℕ} → c ≤ d → Takes Q σ c F → Takes Q σ d F
 takes-more l (gives q) = gives q
 takes-more {σ = σ} {d = d} l (asks {m = m} e h r w) = takes-ask d m e (omega arith) (omega arith) w
 takes-more l faults = faults
 
+-- one form after another
 pub takes-then : {A B : Type 0} {Q : A → Type 0} {R : B → Type 0} {σ τ : ℕ} {F : Form A} {k : A → Form B} {c : ℕ}
     (d : ℕ)
     → σ ≤ d + τ → Takes Q σ c F → ((a : A) → Q a → Takes R τ d (k a)) → Takes R τ (c + d) (F >>= k)
@@ -154,6 +160,7 @@ takes-then d l faults h = faults
 abbrev pub Any : {A : Type 0} → A → Type 0
 Any a = Unit {0}
 
+-- n times the same form
 pub takes-many : {A : Type 0} {Q : A → Type 0} {F : Form A} {c : ℕ} (n : ℕ) → Takes Q 2 c F → Takes Any 2 (n * c)
     (many n F)
 unfolding many
@@ -164,6 +171,7 @@ takes-many {c = c} (suc n) w =
     (takes-then (n * c + 0) (omega arith) w
     (λ a q. takes-then 0 (omega arith) (takes-many n w) (λ xs r. gives tt)))
 
+-- an array of n items
 pub takes-array : {A : Type 0} {Q : A → Type 0} {F : Form A} {c : ℕ} (size : ℕ) (blank : A) (n : ℕ) → Takes Q 2 c F
     → Takes Any 2 (n * c) (array size blank n F)
 takes-array {c = c} size blank n w =
@@ -248,6 +256,7 @@ pub data Early {A : Type 0} (Q : A → Type 0) (c : ℕ) (F : Form A) (p : List 
   goes : (a : A) (q : List ℕ) → Q a → length p ≤ c + length q → ((t : List ℕ) → Finds F (p ++ t) (got a (q ++ t)))
       → Early Q c F p
 
+-- a form that takes at most c bytes looks no further than c + σ
 pub early : {A : Type 0} {Q : A → Type 0} {σ : ℕ} {F : Form A} {c : ℕ} → Takes Q σ c F → (p : List ℕ) → c + σ ≤
     length p
     → Early Q c F p

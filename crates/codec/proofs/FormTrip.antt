@@ -1,21 +1,22 @@
--- The round trip of what is read by a form, and how many bytes a form takes.
+-- The round trip of what is read by a form.
 use mathlib.Core.Bool.{Bool, true, false, cond}
-use mathlib.Core.List.{List, [], _∷_, _++_, append-assoc, append-nil}
+use mathlib.Core.List.{List, [], _∷_, _++_, append-assoc}
 use mathlib.Core.Path.{_≡_, refl, sym, ap, _∙_, subst}
-use Prim.Native.Nat.{ℕ, zero, suc, _+_, _-_, _*_, _≤_, _<_}
+use Prim.Native.Nat.{ℕ, zero, suc, _-_, _≤_, _<_}
 use native.Mathlib.Omega.{arith}
-use lib.Dec.{ltb, leb}
+use lib.Dec.{ltb}
 use lib.ListN.{length, take, drop, replicate, length-append, length-replicate, take-append-drop}
 use lib.Seq.{take-at, drop-at, length-take-le}
 use borrow.Author.Tests.{lt-ltb, ltb-true}
 use Rattle.numbers.specs.Refusals.{refusalNumber}
 use Rattle.numbers.specs.declared.Refusal.the-variants.{Model}
 use Rattle.codec.specs.Number.{Got, got, refused, numberIn, bytesOf}
-use Rattle.codec.specs.Form.{Form, done, ask, fault, below, readIn, _>>=_, many, padded, array}
+use Rattle.codec.specs.Form.{Form, ask, below, readIn, _>>=_, many, padded, array}
 use Rattle.codec.specs.Arrays.{All, each, Packed, AreBytes}
 use Rattle.codec.proofs.FormLaws.{Finds, onto, read-then, after, finished}
 use Rattle.codec.proofs.NumberTrip.{Stood, number-there, number-back}
 
+-- two values read from one place are the same, and so is what is left
 pub same-got : {A : Type 0} {a b : A} {s t : List ℕ} → got a s ≡ got b t → (a ≡ b) × (s ≡ t)
 same-got e = (cc, cc)
 
@@ -26,6 +27,7 @@ pub record Parted {A B : Type 0} (F : Form A) (k : A → Form B) (s : List ℕ) 
   pub first : Finds F s (got part rest)
   pub second : Finds (k part) rest (got b t)
 
+-- what two forms one after the other find, each finds in its part
 pub parted : {A B : Type 0} (F : Form A) (k : A → Form B) {s t : List ℕ} {b : B} → Finds (F >>= k) s (got b t)
     → Parted F k s b t
 parted {A} {B} F k {s} {t} {b} f = by-first (readIn F s) refl (sym (read-then F k s) ∙ f .is)
@@ -42,6 +44,7 @@ pub record Numbered {A : Type 0} (m : ℕ) (k : ℕ → Form A) (s : List ℕ) (
   pub stood : Stood s number rest
   pub then : Finds (k number) rest (got a t)
 
+-- what a form that asks finds begins with a number below the limit
 pub numbered : {A : Type 0} {m : ℕ} {k : ℕ → Form A} {s t : List ℕ} {a : A} → AreBytes s → Finds (ask m k) s (got a t)
     → Numbered m k s a t
 unfolding readIn
@@ -115,6 +118,7 @@ module _ {A : Type 0} {F : Form A} {P : A → Type 0} {p : A → List ℕ} (w : 
       here .1 ∙ ap (_++_ (p a)) (back .2) ∙ sym (append-assoc (p a) (each p (others .part)) (others .rest)) in
       moved (suc n) s (same .0) (same .1) (ap suc (back .0), (here .0, back .1), whole)
 
+  -- an array's bytes are those of its items
   pub codes-array : (size n : ℕ) (blank : A) → n ≤ size
       → Codes (array size blank n F) (Packed P blank size n) (λ xs. each p (take n xs))
   unfolding readIn

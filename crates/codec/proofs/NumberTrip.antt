@@ -1,7 +1,7 @@
 -- The round trip of a number: its bytes are read as it, and what is read as it are its bytes.
 use mathlib.Core.Bool.{Bool, true, false, cond}
 use mathlib.Core.List.{List, [], _∷_, _++_}
-use mathlib.Core.Path.{_≡_, refl, sym, ap, _∙_}
+use mathlib.Core.Path.{_≡_, refl}
 use Prim.Native.Nat.{ℕ, _+_, _-_, _*_, _/_, _%_, _≤_, _<_}
 use native.Mathlib.Decide.{decLt}
 use native.Mathlib.Omega.{arith}
@@ -9,7 +9,7 @@ use lib.Dec.{ltb, eqb}
 use borrow.Author.Tests.{lt-ltb, le-ltb, ne-eqb, ltb-true, ltb-false, eqb-false}
 use Rattle.numbers.specs.Refusals.{refusalNumber}
 use Rattle.numbers.specs.declared.Refusal.the-variants.{Bytes}
-use Rattle.codec.specs.Number.{Got, got, refused, numberIn, second, third, bytesOf}
+use Rattle.codec.specs.Number.{got, refused, numberIn, second, third, bytesOf}
 use Rattle.codec.specs.Arrays.{AreBytes}
 use Rattle.codec.proofs.NumberBytes.{small, middle, large}
 
@@ -47,6 +47,7 @@ module _ (v : ℕ) (t : List ℕ) (h : v < 2097152) where
       )
       refl)
 
+  -- a number's bytes are read as it
   pub number-there : numberIn (bytesOf v ++ t) ≡ got v t
   number-there = by-size (decLt v 128) (decLt v 16384)
     where
@@ -60,12 +61,9 @@ pub record Stood (s : List ℕ) (v : ℕ) (t : List ℕ) : Type 0 where
   pub fits : v < 2097152
   pub whole : s ≡ bytesOf v ++ t
 
--- two values read from one place are the same, and so is what is left
-pub same-value : {A : Type 0} {a b : A} {s t : List ℕ} → got a s ≡ got b t → (a ≡ b) × (s ≡ t)
-same-value e = (cc, cc)
-
-differ : {A : Type 0} {a : A} {s : List ℕ} {n : ℕ} → refused n ≡ got a s → ⊥
-differ e = let z : _≡_ {A = ℕ} 0 1 = cc in omega arith
+-- a refusal is no value
+pub refusal-no : {A : Type 0} {a : A} {s : List ℕ} {n : ℕ} → refused n ≡ got a s → ⊥
+refusal-no e = let z : _≡_ {A = ℕ} 0 1 = cc in omega arith
 
 digit : (y c : ℕ) → y < 128 → (y + c * 128) % 128 ≡ y
 digit y c h = omega arith
@@ -99,7 +97,7 @@ module _ (v : ℕ) (t : List ℕ) where
 
   from-third : (a b : ℕ) (s : List ℕ) → 128 ≤ a → a < 256 → 128 ≤ b → b < 256
       → third (a - 128 + (b - 128) * 128) s ≡ got v t → Stood (a ∷ b ∷ s) v t
-  from-third a b [] la ha lb hb e = absurd (differ e)
+  from-third a b [] la ha lb hb e = absurd (refusal-no e)
   from-third a b (c ∷ s) la ha lb hb e = by-tests (eqb c 0) (ltb c 128) refl refl e
     where
       by-tests : (p q : Bool) → eqb c 0 ≡ p → ltb c 128 ≡ q
@@ -107,14 +105,14 @@ module _ (v : ℕ) (t : List ℕ) where
           (cond q (got (a - 128 + (b - 128) * 128 + c * 16384) s) (refused (refusalNumber Bytes)))
           ≡ got v t
           → Stood (a ∷ b ∷ c ∷ s) v t
-      by-tests true q hp hq e = absurd (differ e)
+      by-tests true q hp hq e = absurd (refusal-no e)
       by-tests false true hp hq e =
           let some : c ≡ 0 → ⊥ = eqb-false c 0 hp in by-three a b c s la ha lb hb (omega arith) (ltb-true c 128 hq) e
-      by-tests false false hp hq e = absurd (differ e)
+      by-tests false false hp hq e = absurd (refusal-no e)
 
   from-second : (a : ℕ) (s : List ℕ) → 128 ≤ a → a < 256 → AreBytes s → second (a - 128) s ≡ got v t → Stood (a ∷ s)
       v t
-  from-second a [] la ha hs e = absurd (differ e)
+  from-second a [] la ha hs e = absurd (refusal-no e)
   from-second a (b ∷ s) la ha hs e = by-tests (eqb b 0) (ltb b 128) refl refl e
     where
       by-tests : (p q : Bool) → eqb b 0 ≡ p → ltb b 128 ≡ q
@@ -122,7 +120,7 @@ module _ (v : ℕ) (t : List ℕ) where
           (cond q (got (a - 128 + b * 128) s) (third (a - 128 + (b - 128) * 128) s))
           ≡ got v t
           → Stood (a ∷ b ∷ s) v t
-      by-tests true q hp hq e = absurd (differ e)
+      by-tests true q hp hq e = absurd (refusal-no e)
       by-tests false true hp hq e =
           let some : b ≡ 0 → ⊥ = eqb-false b 0 hp in by-two a b s la ha (omega arith) (ltb-true b 128 hq) e
       by-tests false false hp hq e = from-third a b s la ha (ltb-false b 128 hq) (hs .0) e
@@ -130,7 +128,7 @@ module _ (v : ℕ) (t : List ℕ) where
   -- what is read as v are the bytes of v
   pub number-back : (s : List ℕ) → AreBytes s → numberIn s ≡ got v t → Stood s v t
   unfolding numberIn
-  number-back [] hs e = absurd (differ e)
+  number-back [] hs e = absurd (refusal-no e)
   number-back (a ∷ s) hs e = by-test (ltb a 128) refl e
     where
       by-test : (p : Bool) → ltb a 128 ≡ p → cond p (got a s) (second (a - 128) s) ≡ got v t → Stood (a ∷ s) v t

@@ -1,23 +1,16 @@
 -- Arrays whose rest is blank, checked place by place.
 use mathlib.Core.List.{List, [], _∷_, _++_}
-use mathlib.Core.Bool.{Bool, true, false}
-use mathlib.Core.Path.{_≡_, refl, sym, ap, _∙_, subst}
+use mathlib.Core.Bool.{Bool}
+use mathlib.Core.Path.{_≡_, sym, ap, _∙_, subst}
 use Prim.Native.Nat.{ℕ, zero, suc, _+_, _-_, _≤_, _<_}
-use native.Mathlib.Decide.{decLt, ℕ-discrete}
-use native.Mathlib.Numerals.{add-one}
+use native.Mathlib.Decide.{ℕ-discrete}
 use native.Mathlib.Omega.{arith}
 use lib.ListN.{length, getD, take, drop, replicate, length-drop, length-replicate, getD-replicate}
 use lib.Seq.{getD-take, getD-drop, ext-getD, length-take-le}
-use Rattle.numbers.proofs.Tells.{Tells, means, never}
+use Rattle.numbers.proofs.Tells.{Tells, means}
 use Rattle.codec.specs.Arrays.{All, Packed, Placed}
 
--- an item below the length does not depend on the default
-pub inside : {A : Type 0} (xs : List A) (i : ℕ) (d d' : A) → i < length xs → getD xs i d ≡ getD xs i d'
-inside [] i d d' h = absurd (omega arith)
-inside (x ∷ xs) zero d d' h = refl
-inside (x ∷ xs) (suc i) d d' h = inside xs i d d' (omega arith)
-
--- of one item more
+-- what all items have, and one behind them, all have then
 pub all-behind : {A : Type 0} (P : A → Type 0) (xs : List A) {x : A} → All P xs → P x → All P (xs ++ (x ∷ []))
 all-behind P [] h p = (p, tt)
 all-behind P (y ∷ xs) (q, h) p = (q, all-behind P xs h p)
@@ -28,6 +21,7 @@ module _ {A : Type 0} (P : A → Type 0) (d : A) where
   all-of [] h = tt
   all-of (x ∷ xs) h = (h 0 (omega arith), all-of xs (λ i l. h (suc i) (omega arith)))
 
+  -- each item of a list has what all have
   pub one-of : (xs : List A) → All P xs → (i : ℕ) → i < length xs → P (getD xs i d)
   one-of [] a i l = absurd (omega arith)
   one-of (x ∷ xs) (p, a) zero l = p
@@ -38,9 +32,11 @@ pub record Checked {A : Type 0} (P : A → Type 0) (blank d : A) (n : ℕ) (xs :
   pub right : (j : ℕ) → j < i → Placed P blank n j (getD xs j d)
 
 module _ {A : Type 0} {P : A → Type 0} {blank d : A} {n : ℕ} {xs : List A} where
+  -- no place is looked at
   pub check-start : Checked P blank d n xs 0
   check-start = record { right = λ j l. absurd (omega arith) }
 
+  -- one place more
   pub check-more : {i : ℕ} → Checked P blank d n xs i → Placed P blank n i (getD xs i d) → Checked P blank d n xs
       (i + 1)
   check-more {i} w p = record { right = by-place }
@@ -91,8 +87,10 @@ check-each {A} {P} {blank} {size} {n} {xs} d w i l =
 
 -- a place is told by what is asked of it
 module _ {A : Type 0} {P : A → Type 0} {blank : A} {n i : ℕ} {x : A} {b : Bool} where
+  -- a place before n is tested for its limits
   pub place-used : i < n → Tells b (P x) → Tells b (Placed P blank n i x)
   place-used l t = means (λ p. record { used = λ h. p; unused = λ h. absurd (omega arith) }) (λ w. w .used l) t
 
+  -- one behind is tested for being blank
   pub place-unused : n ≤ i → Tells b (x ≡ blank) → Tells b (Placed P blank n i x)
   place-unused l t = means (λ e. record { used = λ h. absurd (omega arith); unused = λ h. e }) (λ w. w .unused l) t

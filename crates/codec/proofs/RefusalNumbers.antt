@@ -10,6 +10,7 @@ use Rattle.numbers.proofs.RefusalLaws.{number-range}
 use Rattle.codec.specs.Form.{Form, done, ask, fault, below, readIn}
 use Rattle.codec.specs.Number.{Got, got, refused, third, second, numberIn}
 
+-- a value, or a refusal with a number of the rules
 pub data Numbered {A : Type 0} : Got A → Type 0 where
   found : {a : A} {s : List ℕ} → Numbered (got a s)
   numbered : {e : ℕ} → e ≤ 8 → Numbered (refused e)
@@ -36,6 +37,7 @@ unfolding numberIn
 number-numbered [] = of Bytes
 number-numbered (a ∷ s) = either (ltb a 128) found (second-numbered (a - 128) s)
 
+-- reading by a form gives one of the two
 pub form-numbered : {A : Type 0} (F : Form A) (s : List ℕ) → Numbered (readIn F s)
 unfolding readIn
 form-numbered (done a) s = found

@@ -4,8 +4,6 @@ use mathlib.Core.Path.{_≡_, refl, sym, _∙_, ap}
 use Prim.Native.Nat.{ℕ, _≤_}
 use native.Mathlib.Omega.{arith}
 use lib.ListN.{length, drop, length-drop}
-use Rattle.numbers.specs.Refusals.{refusalNumber}
-use Rattle.numbers.specs.declared.Refusal.{Refusal}
 use Rattle.numbers.proofs.RefusalLaws.{number-inj}
 use Rattle.codec.specs.declared.Number.{Number}
 use Rattle.codec.specs.declared.Number.the-variants.{Value, Refused}
@@ -13,7 +11,7 @@ use Rattle.codec.specs.declared.Step.{Step}
 use Rattle.codec.specs.declared.Step.the-variants.{At, Refused as Stopped}
 use Rattle.codec.specs.Number.{Got, got, refused}
 use Rattle.codec.specs.Answers.{ReadsNumber, Reads, Writes}
-use Rattle.codec.proofs.NumberTrip.{same-value}
+use Rattle.codec.proofs.FormTrip.{same-got}
 
 same-number : {A : Type 0} {a b : ℕ} → _≡_ {A = Got A} (refused a) (refused b) → a ≡ b
 same-number q = cc
@@ -28,7 +26,7 @@ same-place s n m h k e = omega (arith, ap length e, length-drop n s, length-drop
 -- two answers to reading a number are equal
 pub number-settled : (s : List ℕ) (g : Got ℕ) (a b : Number) → ReadsNumber s g a → ReadsNumber s g b → a ≡ b
 number-settled s g (Value v n) (Value w m) p q =
-    let e = same-value (p .said ∙ sym (q .said)) in
+    let e = same-got (p .said ∙ sym (q .said)) in
     ap (λ x. Value x n) (e .0) ∙ ap (Value w) (same-place s n m (p .inside) (q .inside) (e .1))
 number-settled s g (Refused e) (Refused f) p q = ap Refused (number-inj e f (same-number (p .said ∙ sym (q .said))))
 number-settled s g (Value v n) (Refused f) p q = absurd (apart (p .said ∙ sym (q .said)))
@@ -44,7 +42,7 @@ SameStep s (Stopped e) (At m) = ⊥
 -- two answers to reading by a form have one value beside them, and the same refusal or the same bytes left
 pub reads-settled : {A : Type 0} (s : List ℕ) (blank : A) (g : Got A) (p q : Step) (a b : A)
     → Reads s blank g p a → Reads s blank g q b → (a ≡ b) × SameStep s p q
-reads-settled s blank g (At n) (At m) a b v w = same-value (v .said ∙ sym (w .said))
+reads-settled s blank g (At n) (At m) a b v w = same-got (v .said ∙ sym (w .said))
 reads-settled s blank g (Stopped e) (Stopped f) a b v w =
     (v .beside e refl ∙ sym (w .beside f refl), number-inj e f (same-number (v .said ∙ sym (w .said))))
 reads-settled s blank g (At n) (Stopped f) a b v w = absurd (apart (v .said ∙ sym (w .said)))

@@ -1,16 +1,16 @@
 -- Laws of bytes stored one run behind the other.
 use mathlib.Core.List.{List, [], _∷_, _++_, append-nil, append-assoc}
-use mathlib.Core.Path.{_≡_, refl, sym, ap, _∙_, subst}
-use Prim.Native.Nat.{ℕ, zero, suc, _+_, _-_, _≤_, _<_}
-use native.Mathlib.Nat.{sub-zero}
+use mathlib.Core.Path.{_≡_, refl, sym, ap, _∙_}
+use Prim.Native.Nat.{ℕ, zero, suc, _+_, _≤_, _<_}
 use native.Mathlib.Numerals.{add-one}
 use native.Mathlib.Omega.{arith}
-use lib.ListN.{length, getD, set, take, drop, length-append, length-set, length-take}
+use lib.ListN.{length, getD, set, take, drop, length-append, length-set}
 use lib.Seq.{take-suc, take-length, set-at, set-append-seam, length-take-le, drop-cons, take-at}
 use Rattle.codec.specs.Number.{put}
 use Rattle.codec.specs.Answers.{Writes, Room}
 use Rattle.codec.specs.Arrays.{each}
 
+-- two runs stored one behind the other are their join stored
 pub put-append : (xs ys out : List ℕ) (at : ℕ) → put out at (xs ++ ys) ≡ put (put out at xs) (at + length xs) ys
 unfolding put
 put-append [] ys out at = ap (λ (n : ℕ). put out n ys) (omega arith)
@@ -18,6 +18,7 @@ put-append (x ∷ xs) ys out at =
     put-append xs ys (set out at x) (at + 1)
     ∙ ap (λ (n : ℕ). put (put (set out at x) (at + 1) xs) n ys) (omega arith)
 
+-- the area keeps its length
 pub length-put : (xs out : List ℕ) (at : ℕ) → length (put out at xs) ≡ length out
 unfolding put
 length-put [] out at = refl
@@ -32,6 +33,7 @@ pub wrote-none : {a : List ℕ} {at : ℕ} → Writes a at [] a at
 unfolding put
 wrote-none = record { ends = omega arith; stored = refl }
 
+-- one writer behind another writes both runs
 pub wrote-then : {a b d xs ys : List ℕ} {at m end : ℕ} → Writes a at xs b m → Writes b m ys d end
     → Writes a at (xs ++ ys) d end
 wrote-then {a} {b} {d} {xs} {ys} {at} v w =
@@ -71,6 +73,7 @@ pub record Storing {A : Type 0} (f : A → List ℕ) (n : ℕ) (xs : List A) (be
   pub wrote : Writes before at (each f (take i xs)) after from
 
 module _ {A : Type 0} {f : A → List ℕ} {n : ℕ} {xs : List A} {before : List ℕ} {at : ℕ} where
+  -- no item is written
   pub store-start : Storing f n xs before at 0 before at
   store-start = record { within = omega arith; wrote = wrote-none }
 
@@ -84,11 +87,13 @@ module _ {A : Type 0} {f : A → List ℕ} {n : ℕ} {xs : List A} {before : Lis
         let more = length-append (each f (take i xs)) (f (getD xs i d)) in
         record { fits = omega (arith, r .fits, w .wrote .ends, kept-long (w .wrote), some, ap length next, more) }
 
+    -- one item more
     pub store-more : (d : A) {after' : List ℕ} {from' : ℕ} → n ≤ length xs → i < n
         → Writes after from (f (getD xs i d)) after' from' → Storing f n xs before at (i + 1) after' from'
     store-more d h l v =
         record { within = omega arith; wrote = rw (next-item f xs d i (omega arith)) (wrote-then (w .wrote) v) }
 
+    -- all items are written
     pub store-done : n ≤ i → Writes before at (each f (take n xs)) after from
     store-done l = let e : i ≡ n = omega (arith, w .within) in rw (← e) (w .wrote)
 
@@ -96,6 +101,7 @@ module _ {A : Type 0} {f : A → List ℕ} {n : ℕ} {xs : List A} {before : Lis
 pub room-first : (xs ys : List ℕ) {a : List ℕ} {at : ℕ} → Room at (xs ++ ys) a → Room at xs a
 room-first xs ys h = record { fits = omega (arith, h .fits, length-append xs ys) }
 
+-- behind the first run there is room for the second
 pub room-next : (xs ys : List ℕ) {a b : List ℕ} {at m : ℕ} → Writes a at xs b m → Room at (xs ++ ys) a → Room m ys b
 room-next xs ys w h = record { fits = omega (arith, h .fits, w .ends, kept-long w, length-append xs ys) }
 
@@ -111,6 +117,7 @@ put-behind ys (x ∷ xs) (y ∷ out) l =
     ∙ ap (λ (k : ℕ). put ((ys ++ (x ∷ [])) ++ out) k xs) at ∙ put-behind (ys ++ (x ∷ [])) xs out (omega arith)
     ∙ append-assoc ys (x ∷ []) (xs ++ drop (length xs) out)
 
+-- a run stored at the start
 pub put-start : (xs out : List ℕ) → length xs ≤ length out → put out 0 xs ≡ xs ++ drop (length xs) out
 put-start xs out l = put-behind [] xs out l
 
@@ -121,9 +128,11 @@ pub record Copied (bytes before : List ℕ) (i : ℕ) (after : List ℕ) : Type 
   pub is : after ≡ take i bytes ++ drop i before
 
 module _ {bytes before : List ℕ} where
+  -- nothing is copied
   pub copy-start : Copied bytes before 0 before
   copy-start = record { within = omega arith; long = refl; is = refl }
 
+  -- one byte more
   pub copy-more : {i : ℕ} {after : List ℕ} → length bytes ≤ length before → i < length bytes → Copied bytes before i
       after
       → Copied bytes before (i + 1) (set after i (getD bytes i 0))
@@ -140,6 +149,7 @@ module _ {bytes before : List ℕ} where
             ∙ rw (add-one, take-suc bytes i 0 l, append-assoc) refl;
       }
 
+  -- all bytes are copied
   pub copy-done : {i : ℕ} {after : List ℕ} → length bytes ≤ i → Copied bytes before i after
       → after ≡ bytes ++ drop (length bytes) before
   copy-done {i} l w =

@@ -43,5 +43,6 @@ many (suc n) F = F >>= λ a. many n F >>= λ rest. done (a ∷ rest)
 abbrev pub padded : {A : Type 0} → ℕ → A → List A → List A
 padded size blank xs = xs ++ replicate (size - length xs) blank
 
+-- an array of `size` items, of which n are read and the rest are blank
 abbrev pub array : {A : Type 0} → ℕ → A → ℕ → Form A → Form (List A)
 array size blank n F = many n F >>= λ xs. done (padded size blank xs)

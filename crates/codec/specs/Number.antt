@@ -1,7 +1,7 @@
 -- A number as bytes: groups of seven bits, lowest first, top bit set when another follows, at most three groups,
 -- shortest form only.
 use mathlib.Core.Bool.{cond}
-use mathlib.Core.List.{List, [], _∷_, _++_}
+use mathlib.Core.List.{List, [], _∷_}
 use Prim.Native.Nat.{ℕ, _+_, _-_, _*_, _/_, _%_}
 use lib.Dec.{ltb, eqb}
 use lib.IntN.{ℤ, pos, negsuc}
@@ -45,6 +45,7 @@ abbrev pub folded : ℤ → ℕ
 folded (pos n) = n * 2
 folded (negsuc n) = n * 2 + 1
 
+-- and back
 abbrev pub unfolded : ℕ → ℤ
 unfolded v = cond (eqb (v % 2) 0) (pos (v / 2)) (negsuc (v / 2))
 

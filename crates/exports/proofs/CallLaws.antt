@@ -24,14 +24,14 @@ use Rattle.codec.specs.declared.Step.{Step}
 use Rattle.codec.specs.declared.Step.the-variants.{At, Refused as Stopped}
 use Rattle.codec.proofs.Step.{the-type}
 use Rattle.model.specs.declared.Model.{Model}
-use Rattle.model.specs.Answers.{Said, value, refusal, readOf, ReadsModel, Stands, WritesModel, outside, short, wrote}
-use Rattle.model.specs.Written.{modelBytes}
+use Rattle.model.specs.Answers.{Said, value, refusal, readOf, readingSaid, ReadsModel, Stands}
+use Rattle.model.specs.Answers.{WritesModel, outside, short, wrote}
 use Rattle.model.proofs.Theorems.{size}
 use Rattle.walk.specs.Walks.{walkedOf}
 use Rattle.answer.specs.declared.Printed.{Printed}
 use Rattle.answer.specs.Printed.{Answered, textOver, printedOf, printedSaid, Prints}
 use Rattle.answer.proofs.Theorems.{text-fits}
-use Rattle.exports.specs.Exported.{minus, madeNumber, saidNumber, Rewritten, rewrittenOf, Rewrites}
+use Rattle.exports.specs.Exported.{minus, madeNumber, saidNumber, rewrittenOf, Rewrites}
 use Rattle.exports.proofs.NumberLaws.{not-above}
 
 -- ---- counts fit
@@ -74,6 +74,11 @@ printed-fits bytes are area text r area′ text′ v =
     by false e = rw e (omega (arith, text-fits bytes are area))
 
 -- ---- bytes read and written back
+-- the model that was read
+pub read-value : (s : List ℕ) (step : Step) (m : Model) (end : ℕ) → ReadsModel s step m → step ≡ At end
+    → readOf s ≡ value m
+read-value s step m end r e = sym (r .said) ∙ ap (λ (p : Step). readingSaid p m) e
+
 -- they are refused
 pub rewrites-unread : (s : List ℕ) (step : Step) (m : Model) (before : List ℕ) (e : Refusal) (r : ℤ)
     → ReadsModel s step m → tagOf the-type step ≡ 1 → e ≡ whyStep step → r ≡ minus (refusalNumber e)

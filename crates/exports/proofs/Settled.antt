@@ -8,7 +8,6 @@ use Rattle.sets.proofs.Asking.{contains-settled, included-settled}
 use Rattle.making.specs.declared.Made.{Made}
 use Rattle.making.proofs.Settled.{intersect-settled, delay-settled, reset-settled, hull-settled}
 use Rattle.runs.specs.Verdicts.{answerBy}
-use Rattle.runs.specs.declared.Verdict.{Verdict}
 use Rattle.walk.proofs.Theorems.{walk-settled}
 use Rattle.answer.specs.declared.Printed.{Printed}
 use Rattle.answer.proofs.Theorems.{answer-settled}

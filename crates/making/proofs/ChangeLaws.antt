@@ -144,9 +144,6 @@ changes-replace n i c x v words p is e = changes-by n (Replace i c) v (set words
     new = e ∙ rw (value-fin c (p .limits .value))
         (ap (λ (y : Num). fin c ⊗ y) (sym (words-entry n v (p .long) n (omega arith))))
 
-    inside : i < 7
-    inside = omega (arith, p .limits .clock, p .clocks)
-
     same : (j : ℕ) → j < suc n → Dec (j ≡ i)
         → entries (set words i x) j ≡ entry (set (map number v) i (fin c ⊗ entry (map number v) n)) j
     same j l (yes q) =

@@ -2,7 +2,7 @@
 use mathlib.Core.Bool.{Bool, true, false, cond}
 use mathlib.Core.List.{List, [], _∷_}
 use mathlib.Core.Logic.{_⊎_, inl, inr}
-use mathlib.Core.Path.{_≡_, refl, sym, _∙_, ap, subst}
+use mathlib.Core.Path.{_≡_, refl, sym, _∙_, ap}
 use Prim.Native.Nat.{ℕ, suc}
 use lib.ListN.{length}
 use Rattle.numbers.specs.Places.{Vec, sideOf}
@@ -13,9 +13,8 @@ use Rattle.algebra.specs.Working.{sideAt, satisfies, crossing, crossings, inter
 use Rattle.algebra.proofs.Entries.{Same}
 use Rattle.algebra.proofs.Residuation.{Row}
 use Rattle.algebra.proofs.HalfSpace.{Sat, mixed, Cut, keep, mix, cut}
-use Rattle.algebra.proofs.Lists.{listed, tab-length, tab-at}
-use Rattle.algebra.proofs.Made.{Long}
-use Rattle.making.proofs.Members.{Has, has-none, has-cons, has-head, has-tail, has-at, has-each}
+use Rattle.algebra.proofs.Lists.{listed, tab-at}
+use Rattle.making.proofs.Members.{Has, has-none, has-cons, has-head, has-tail, has-each}
 
 module _ (n : ℕ) (ab cd : Vector) where
   -- the test tells whether a vector satisfies the half-space
@@ -92,15 +91,6 @@ module _ (n : ℕ) (ab cd : Vector) where
           mix i k s t,
           λ j l. ap (λ u. entry u j) (sym e) ∙ crossing-at (vector L (i .0)) (vector L (k .0)) j l,
         )
-
-    -- its vectors have n + 1 entries, if those of the list have
-    pub intersect-long : Long n L → Long n (intersectList n ab cd L)
-    unfolding crossing
-    intersect-long long q m = by (arises (vector (intersectList n ab cd L) q) (has-at (intersectList n ab cd L) q m))
-      where
-        by : {v : Vector} → Arises v → length v ≡ suc n
-        by (stays i s e) = subst (λ v. length v ≡ suc n) e (long (i .0) (i .1))
-        by (crosses i k s t e) = subst (λ v. length v ≡ suc n) e (tab-length (suc n) _)
 
     -- each vector of the cut family is in the working list
     pub cut-list : (u : CutOf) → (v : Vector) × Has (intersectList n ab cd L) v × Same (suc n) (entry v) (cutOf u)

@@ -22,7 +22,7 @@ use Rattle.algebra.proofs.Residuation.{Row}
 use Rattle.algebra.proofs.Cleaning.{sel, Without, span-more, Cleaned}
 use Rattle.algebra.proofs.Rising.{far, stays, as-long}
 use Rattle.algebra.proofs.Canon.{Earlier, by-kind, by-clock, strict}
-use Rattle.algebra.proofs.CanonicalLists.{before, generated-iff}
+use Rattle.algebra.proofs.CanonicalLists.{to-earlier, generated-iff}
 use Rattle.algebra.proofs.Lists.{listed, Spans, spot, in-span, own}
 use Rattle.algebra.proofs.Made.{Long, Pointed, rays-only}
 use Rattle.sorting.proofs.Order.{same-vector}
@@ -36,17 +36,15 @@ use Rattle.making.proofs.Sorted.{Fit, Fits, sorted-has, RisingList, sor
 -- ---- rising lists
 rising-far : (n : ℕ) (R : List Vector) → RisingList n R → (i k : ℕ) → i < k → k < length R
     → Earlier n (family R i) (family R k)
-rising-far n R r = far (strict n) (length R) (family R) (λ i l. before n (vector R i) (vector R (suc i)) (r i l))
+rising-far n R r = far (strict n) (length R) (family R) (λ i l. to-earlier (r i l))
 
 -- two places of a rising list hold different vectors
 pub rising-apart : (n : ℕ) (R : List Vector) → RisingList n R → (i k : ℕ) → i < length R → k < length R
     → Same (suc n) (family R i) (family R k) → i ≡ k
-rising-apart n R r i k l m e = go (decLt i k) (decLt k i)
-  where
-    go : Dec (i < k) → Dec (k < i) → i ≡ k
-    go (yes h) d = absurd (strict n .irr (rising-far n R r i k h m) e)
-    go (no h) (yes d) = absurd (strict n .irr (rising-far n R r k i d l) (λ j b. sym (e j b)))
-    go (no h) (no d) = omega arith
+rising-apart n R r i k l m e =
+    let no-less : ¬ (i < k) = λ h. strict n .irr (rising-far n R r i k h m) e in
+    let no-more : ¬ (k < i) = λ h. strict n .irr (rising-far n R r k i h l) (λ j b. sym (e j b)) in
+    omega (arith, no-less, no-more)
 
 -- each vector of A has the entries of one of B
 abbrev pub Among : ℕ → List Vector → List Vector → Type 0
@@ -59,10 +57,10 @@ rising-same n A B a b r s f g = ext-getD [] A B long (λ i l. same-vector n (vec
     (b i (subst (λ m. i < m) long l)) (stays (strict n) (length A) (length B) (family A) (family B) up up′ f g i l))
   where
     up : (i : ℕ) → suc i < length A → Earlier n (family A i) (family A (suc i))
-    up i l = before n (vector A i) (vector A (suc i)) (r i l)
+    up i l = to-earlier (r i l)
 
     up′ : (i : ℕ) → suc i < length B → Earlier n (family B i) (family B (suc i))
-    up′ i l = before n (vector B i) (vector B (suc i)) (s i l)
+    up′ i l = to-earlier (s i l)
 
     long : length A ≡ length B
     long = as-long (strict n) (length A) (length B) (family A) (family B) up up′ f g

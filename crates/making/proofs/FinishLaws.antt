@@ -13,7 +13,8 @@ use Rattle.numbers.specs.Numbers.{Num, −∞, fin}
 use Rattle.numbers.specs.Places.{Vec}
 use Rattle.numbers.specs.Tests.{some}
 use Rattle.numbers.specs.declared.Refusal.the-variants.{Range, Gens}
-use Rattle.numbers.proofs.Tells.{Tells, clash, always, means, passes, fails, itself, tells-every, tells-leb}
+use Rattle.numbers.proofs.Tells.{Tells, clash, always, means, passes, fails, tells-settled, itself}
+use Rattle.numbers.proofs.Tells.{tells-every, tells-leb}
 use Rattle.algebra.specs.Vectors.{Vector, entry, vector, family, words}
 use Rattle.algebra.specs.Working.{isPoint, somePoint}
 use Rattle.algebra.proofs.Entries.{Same}
@@ -159,11 +160,6 @@ module _ (d m : ℕ) (G F : ℕ → Vec) (e : (i j : ℕ) → i < m → j < d �
   unfolding cleanFlags
   flags-ext = from-ext m 0 (replicate m true) (omega arith)
 
--- tests of the same statement answer alike
-alike : {P : Type 0} (a b : Bool) → Tells a P → Tells b P → a ≡ b
-alike true b p q = sym (passes q (p .yes refl))
-alike false b p q = sym (fails q (p .no refl))
-
 -- tests that agree on each number below k agree on whether some passes
 pub some-ext : {p r : ℕ → Bool} (k : ℕ) → ((j : ℕ) → j < k → p j ≡ r j) → some k p ≡ some k r
 some-ext zero h = refl
@@ -295,7 +291,7 @@ module _ (n : ℕ) (work : List ℤ) (k : ℕ) (area : List ℤ) (g : Finishable
     -- looking at the vectors that are on is looking at the result
     range : aliveOk n flags (flat (suc n) work) ≡ rangeOk n R
     unfolding R
-    range = alike (aliveOk n flags (flat (suc n) work)) (rangeOk n R) (tells-alive n flags (flat (suc n) work))
+    range = tells-settled (aliveOk n flags (flat (suc n) work)) (rangeOk n R) (tells-alive n flags (flat (suc n) work))
         (means to from (tells-rows n R))
       where
         s : Sorts n L (On (length L) flags) R

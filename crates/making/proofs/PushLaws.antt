@@ -50,7 +50,7 @@ shifted-normal n v ys e s = ext-getD −∞ (map number ys) (tab (suc n) X) long
         ∙ tab-at (suc n) X j b
 
 -- the lent part put back is the vector put in its place
-put-mid : (work ys : List ℤ) (a w : ℕ) → putMid a w work ys ≡ put work a ys w
+pub put-mid : (work ys : List ℤ) (a w : ℕ) → putMid a w work ys ≡ put work a ys w
 unfolding put
 put-mid work ys a w = ap (λ (l : List ℤ). take a work ++ (ys ++ l)) (drop-drop w a work)
     ∙ sym (append-assoc (take a work) ys (drop (a + w) work))

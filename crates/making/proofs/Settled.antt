@@ -3,7 +3,6 @@ use mathlib.Core.List.{List, _++_}
 use mathlib.Core.Path.{_≡_, sym, _∙_, ap, subst}
 use Prim.Native.Nat.{ℕ, _≤_, _<_}
 use native.Mathlib.Omega.{arith}
-use native.Mathlib.Decide.{decLt}
 use lib.IntN.{ℤ}
 use lib.ListN.{length, drop}
 use Rattle.numbers.specs.Refusals.{refusalNumber}
@@ -47,12 +46,8 @@ module _ (c : Input) (n : ℕ) where
 
   first-of : (L K : List Vector) (k l : ℕ) → (Good c → L ≡ K) → Refuses (making c n L) k
       → Refuses (making c n K) l → k ≡ l
-  first-of L K k l h p q = go (decLt k l) (decLt l k)
-    where
-      go : Dec (k < l) → Dec (l < k) → k ≡ l
-      go (yes b) d = absurd (not-before L K k l h p q b)
-      go (no b) (yes d) = absurd (not-before K L l k (λ g. sym (h g)) q p d)
-      go (no b) (no d) = omega arith
+  first-of L K k l h p q =
+      omega (arith, not-before L K k l h p q, not-before K L l k (λ g. sym (h g)) q p)
 
   -- what met all demands is not refused
   all-met : (L K : List Vector) (k : ℕ) → (Good c → L ≡ K) → MetBelow 9 (making c n L)

@@ -13,10 +13,8 @@ use Rattle.numbers.proofs.NumberLaws.{≼-antisym, ≼-of-eq, tells-atMost, dec
 use Rattle.algebra.specs.Vectors.{Vector, entry, vector, IsPoint, IsRay}
 use Rattle.algebra.specs.Canonical.{Lower, Before, kinds, clocks}
 use Rattle.algebra.proofs.Entries.{Same, places}
-use Rattle.algebra.proofs.Canon.{Earlier, by-kind, by-clock, strict}
-use Rattle.algebra.proofs.CanonicalLists.{before}
 use Rattle.making.specs.Clean.{lowerFrom, earlier, insert, sorted}
-use Rattle.sorting.proofs.Order.{same-vector}
+use Rattle.sorting.proofs.Order.{same-vector, chain}
 use Rattle.making.proofs.Members.{Has, has-none, has-cons, has-head, has-tail, has-at}
 
 -- ---- the test of the order
@@ -129,16 +127,6 @@ tells-earlier n v w k l = go k l
 pub record Fit (n : ℕ) (v : Vector) : Type 0 where
   pub long : length v ≡ suc n
   pub kind : IsPoint n v ⊎ IsRay n v
-
--- the order of entries is that of the vectors
-pub after : (n : ℕ) (v w : Vector) → Earlier n (entry v) (entry w) → Before n v w
-after n v w (by-kind p q) = kinds p q
-after n v w (by-clock e l) =
-    clocks e (record { at = l .j; inside = l .inside; same = l .agree; smaller = l .less })
-
--- what is before a vector is before all that come after it
-pub before-chain : (n : ℕ) (u v w : Vector) → Before n u v → Before n v w → Before n u w
-before-chain n u v w p q = after n u w (strict n .chain (before n u v p) (before n v w q))
 
 -- the first of k places where two vectors differ
 record Differ (k : ℕ) (v w : Vector) : Type 0 where
@@ -282,7 +270,7 @@ module _ (n : ℕ) (v : Vector) (a : Fit n v) where
         where
           at : (u : Vector) → (w ≡ u) ⊎ Has L u → Before n v u
           at u (inl q) = subst (Before n v) q h
-          at u (inr m) = before-chain n v w u h (above u m)
+          at u (inr m) = chain h (above u m)
       by r (behind h e) = subst (Climbs n) (sym e) (more (λ u m. at u (insert-has L rest u .0 m)) r)
         where
           at : (u : Vector) → (v ≡ u) ⊎ Has L u → Before n w u

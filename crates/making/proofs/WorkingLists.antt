@@ -1,23 +1,21 @@
--- Working lists: their vectors have n + 1 entries, and how many there are.
+-- Vectors before cleaning: those of a list of words have n + 1 entries, and how many a working list has.
 use mathlib.Core.Bool.{Bool, true, false, cond}
 use mathlib.Core.List.{List, [], _∷_, _++_, map}
-use mathlib.Core.Path.{_≡_, refl, _∙_, ap, subst}
+use mathlib.Core.Path.{_≡_, refl, ap, subst}
 use Prim.Native.Nat.{ℕ, zero, suc, _+_, _*_, _-_, _≤_, _<_}
 use native.Mathlib.Nat.{mul-le-mul-left, suc-mul, div-mul-le-self}
 use native.Mathlib.Omega.{arith}
 use lib.Dec.{leb}
 use lib.IntN.{ℤ}
-use lib.ListN.{length, drop, length-append, length-drop, length-map, length-set}
+use lib.ListN.{length, drop, length-append, length-drop, length-map}
 use lib.Seq.{length-take-le}
-use Rattle.numbers.specs.Numbers.{−∞, fin, _⊗_}
 use Rattle.numbers.specs.Words.{number}
 use Rattle.numbers.proofs.Tells.{tells-every, tells-leb}
-use Rattle.algebra.specs.Vectors.{Vector, entry, vector, pieces, count, vectors}
+use Rattle.algebra.specs.Vectors.{Vector, vector, pieces, count, vectors}
 use Rattle.algebra.specs.Working.{each, satisfies, crossing, crossings, intersectList, toRay, delayList}
 use Rattle.algebra.specs.Working.{resetVector, resetList, somePoint, withPoint, hullList}
-use Rattle.algebra.proofs.Lists.{split, vectors-length}
+use Rattle.algebra.proofs.Lists.{vectors-length}
 use Rattle.algebra.proofs.Made.{Long}
-use Rattle.making.proofs.Normal.{map-at}
 
 -- ---- n + 1 entries
 pieces-long : (k w : ℕ) (v : Vector) → k * w ≤ length v → (i : ℕ) → i < k → length (vector (pieces k w v) i) ≡ w
@@ -33,35 +31,6 @@ unfolding vectors
 vectors-long n l i h = pieces-long (count n l) (suc n) (map number l)
     (omega (arith, div-mul-le-self (length l) (suc n), length-map l number)) i
     (subst (λ k. i < k) (vectors-length n l) h)
-
-module _ (n : ℕ) (L : List Vector) (long : Long n L) where
-  map-long : (f : Vector → Vector) → ((v : Vector) → length (f v) ≡ length v) → Long n (map f L)
-  map-long f h i l = rw (map-at f L i m) (h (vector L i) ∙ long i m)
-    where
-      m : i < length L
-      m = subst (λ k. i < k) (length-map L f) l
-
-  -- so have those of the delay's working list
-  pub delay-long : Long n (delayList n L)
-  delay-long = split L (map (toRay n) L) (λ v. length v ≡ suc n) long
-      (map-long (toRay n) (λ v. length-set v n −∞))
-
-  -- and those of the reset's
-  pub reset-long : (i : ℕ) (c : ℤ) → Long n (resetList n i c L)
-  reset-long i c = map-long (resetVector n i c) (λ v. length-set v i (fin c ⊗ entry v n))
-
-  with-long : Long n (withPoint n L)
-  unfolding withPoint
-  with-long = go (somePoint n L)
-    where
-      go : (b : Bool) → Long n (cond b L [])
-      go true = long
-      go false = λ i l. absurd (omega arith)
-
--- and those of the hull's
-pub hull-long : (n : ℕ) (A B : List Vector) → Long n A → Long n B → Long n (hullList n A B)
-unfolding hullList
-hull-long n A B a b = split (withPoint n A) (withPoint n B) (λ v. length v ≡ suc n) (with-long n A a) (with-long n B b)
 
 -- ---- how many
 -- how many vectors pass a test

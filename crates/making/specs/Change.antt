@@ -24,7 +24,7 @@ ChangeLimits n Stay = Unit
 ChangeLimits n Ray = Unit
 ChangeLimits n (Replace i c) = ResetLimits n i c
 
--- a vector of n + 1 words, a point or a ray within limits, can be changed
+-- a vector of n + 1 words within limits can be changed
 pub record Changeable (n : ℕ) (change : Change) (v : List ℤ) : Type 0 where
   pub clocks : n ≤ 6
   pub long : length v ≡ suc n

@@ -106,7 +106,7 @@ pub record Halved (n : ℕ) (list ls rs : List ℤ) : Type 0 where
 pub record RoomOf (n : ℕ) (work : List ℤ) (k : ℕ) (L : List Vector) : Type 0 where
   pub room : (k + length L) * suc n ≤ length work
 
--- two vectors of a list, and their weights within limits
+-- two vectors and their weights within limits, and room in `work` for one vector behind k others
 pub record Mixable (n : ℕ) (work : List ℤ) (k : ℕ) (g : List ℤ) (l : ℤ) (h : List ℤ) (r : ℤ) : Type 0 where
   pub clocks : n ≤ 6
   pub room : k * suc n + suc n ≤ length work

@@ -1,7 +1,7 @@
 -- Lists and edges that stand where there are none.
 use mathlib.Core.Bool.{Bool}
 use mathlib.Core.List.{List}
-use mathlib.Core.Path.{_≡_, refl, sym, ap, _∙_, subst}
+use mathlib.Core.Path.{_≡_, refl, sym, subst}
 use Prim.Native.Nat.{ℕ}
 use native.Mathlib.Omega.{arith}
 use lib.ListN.{replicate}
@@ -18,6 +18,7 @@ same-list : {c : ℕ} {xs : List Bound} → c ≡ 0 → xs ≡ replicate 8 noBou
     → _≡_ {A = Bounds} (record { count = c; items = xs }) noBounds
 same-list e q = cc
 
+-- a list of count 0 is in limits exactly if it is blank
 pub tells-blank : (n : ℕ) (bs : Bounds) {r : Bool} → bs .count ≡ 0 → Tells r (BoundsLimits n bs) → Tells r
     (bs ≡ noBounds)
 tells-blank n bs e =
@@ -29,6 +30,7 @@ tells-blank n bs e =
     from : bs ≡ noBounds → BoundsLimits n bs
     from q = subst (BoundsLimits n) (sym q) none
 
+-- an edge with 0 everywhere is blank
 pub same-edge : {s d r : ℕ} {g : Bounds} → s ≡ 0 → d ≡ 0 → r ≡ 0 → g ≡ noBounds
     → _≡_ {A = Edge} (record { source = s; destination = d; guard = g; resets = r }) noEdge
 same-edge es ed er eg = cc

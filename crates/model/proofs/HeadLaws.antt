@@ -1,11 +1,10 @@
--- Numbers that must not be 0.
+-- Numbers that must not be 0, and the number of reset sets.
 use mathlib.Core.Bool.{Bool, true, false, cond}
 use mathlib.Core.List.{List}
 use mathlib.Core.Path.{_≡_, refl, ap, _∙_}
-use Prim.Native.Nat.{ℕ, zero, suc, _*_, _^_, _%_, _≤_, _<_}
+use Prim.Native.Nat.{ℕ, zero, suc, _*_, _^_, _%_, _≤_}
 use native.Mathlib.Omega.{arith}
 use lib.Dec.{ltb, eqb}
-use borrow.Author.Tests.{ltb-true, eqb-false}
 use Rattle.numbers.specs.Refusals.{refusalNumber}
 use Rattle.numbers.specs.declared.Refusal.the-variants.{Model}
 use Rattle.codec.specs.Number.{Got, got, refused, numberIn}
@@ -32,30 +31,14 @@ counted-then {A} m k s = by-number (numberIn s)
     by-number (refused e) = refl
 
 module _ {A : Type 0} {m : ℕ} (k : ℕ → Form A) {s : List ℕ} where
+  -- a number that is not 0 is found, and then what follows it
   pub counted-on : {v : ℕ} {t : List ℕ} {g : Got A} → Finds (counted m) s (got v t) → Finds (k v) t g
       → Finds (ask m (λ v. positive v (k v))) s g
   counted-on e f = record { is = counted-then m k s ∙ ap (onto (λ v t. readIn (k v) t)) (e .is) ∙ f .is }
 
+  -- no such number is found
   pub uncounted : {e : ℕ} → Finds (counted m) s (refused e) → Finds (ask m (λ v. positive v (k v))) s (refused e)
   uncounted e = record { is = counted-then m k s ∙ ap (onto (λ v t. readIn (k v) t)) (e .is) }
-
--- what was found is below m and not 0
-pub found-counted : {m v : ℕ} {s t : List ℕ} → Finds (counted m) s (got v t) → (v < m) × (1 ≤ v)
-unfolding readIn
-found-counted {m} {v} {s} {t} f = by-number (numberIn s) (f .is)
-  where
-    by-tests : (w : ℕ) (u : List ℕ) (p q : Bool) → ltb w m ≡ p → eqb w 0 ≡ q
-        → cond p (readIn (cond q fault (done w)) u) (refused (refusalNumber Model)) ≡ got v t → (v < m) × (1 ≤ v)
-    by-tests w u true true hp hq e = absurd (let z : _≡_ {A = ℕ} 0 1 = cc in omega arith)
-    by-tests w u true false hp hq e =
-        let q : w ≡ v = cc in
-        let some : w ≡ 0 → ⊥ = eqb-false w 0 hq in
-        (omega (arith, ltb-true w m hp), omega arith)
-    by-tests w u false q hp hq e = absurd (let z : _≡_ {A = ℕ} 0 1 = cc in omega arith)
-
-    by-number : (g : Got ℕ) → below m g (λ w u. readIn (positive w (done w)) u) ≡ got v t → (v < m) × (1 ≤ v)
-    by-number (got w u) e = by-tests w u (ltb w m) (eqb w 0) refl refl e
-    by-number (refused e') e = absurd (let z : _≡_ {A = ℕ} 0 1 = cc in omega arith)
 
 -- ---- the number of reset sets
 pub sets : (n : ℕ) → n ≤ 6 → 1 * 2 ^ n % 4294967296 ≡ 2 ^ n

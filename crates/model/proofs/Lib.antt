@@ -7,3 +7,5 @@ pub mod ReadLaws
 pub mod StoreLaws
 pub mod Theorems
 pub mod PlainLimits
+pub mod PlaceLaws
+pub mod SurveyLaws

@@ -1,22 +1,21 @@
 -- A model takes at most 33,664 bytes, and reading one looks at no more than 33,665.
-use mathlib.Core.Bool.{Bool, true, false, cond}
 use mathlib.Core.List.{List, [], _∷_, _++_, append-nil}
-use mathlib.Core.Path.{_≡_, refl, sym, ap, _∙_, subst}
-use Prim.Native.Nat.{ℕ, _+_, _*_, _^_, _≤_, _<_}
+use mathlib.Core.Path.{_≡_, sym, ap, _∙_, subst}
+use Prim.Native.Nat.{ℕ, _^_, _≤_}
 use native.Mathlib.Decide.{decLe}
 use native.Mathlib.Omega.{arith}
 use lib.Dec.{eqb}
 use lib.ListN.{length, take, drop, take-append-drop}
 use lib.Seq.{take-all, length-take-le}
-use Rattle.codec.specs.Number.{Got, got, refused}
-use Rattle.codec.specs.Form.{Form, done, fault, readIn, array, _>>=_}
+use Rattle.codec.specs.Number.{got}
+use Rattle.codec.specs.Form.{readIn}
 use Rattle.codec.proofs.FormLaws.{Finds}
 use Rattle.codec.proofs.FormSize.{
   Takes,
   gives,
-  faults,
   Any,
   takes-ask,
+  takes-either,
   mostBytes,
   most-one,
   takes-more,
@@ -29,14 +28,14 @@ use Rattle.codec.proofs.FormSize.{
   goes,
   early,
 }
-use Rattle.bounds.specs.Bounds.{noBounds, boundsForm}
+use Rattle.bounds.specs.Bounds.{noBounds}
 use Rattle.bounds.proofs.BoundSize.{takes-bounds}
 use Rattle.model.specs.declared.Model.{Model}
 use Rattle.model.specs.declared.reader.Head.{Head}
-use Rattle.model.specs.Models.{noEdge, assembled, positive, headForm, edgeForm, goalForm, modelForm}
+use Rattle.model.specs.Models.{noEdge, headForm, edgeForm, goalForm, modelForm}
 use Rattle.model.specs.Limits.{ModelLimits}
 use Rattle.model.specs.Written.{modelBytes}
-use Rattle.model.specs.Answers.{Said, wholly, readOf}
+use Rattle.model.specs.Answers.{wholly, readOf}
 use Rattle.model.proofs.ModelTrip.{few-sets}
 use Rattle.model.proofs.WholeTrip.{model-there}
 
@@ -44,18 +43,13 @@ use Rattle.model.proofs.WholeTrip.{model-there}
 abbrev pub Counts : Head → Type 0
 Counts h = (h .clocks ≤ 6) × (h .locations ≤ 32) × (h .edges ≤ 64)
 
-either : {A : Type 0} {Q : A → Type 0} {σ c : ℕ} {F : Form A} (b : Bool) → Takes Q σ c F → Takes Q σ c
-    (cond b fault F)
-either true w = faults
-either false w = w
-
 takes-head : Takes Counts 2 4 headForm
 unfolding headForm mostBytes
 takes-head =
     takes-ask 4 7 3 (omega arith) (omega arith) (λ n hn.
-    either (eqb n 0)
+    takes-either (eqb n 0)
     (takes-ask 3 33 2 (omega arith) (omega arith) (λ l hl.
-    either (eqb l 0)
+    takes-either (eqb l 0)
     (takes-ask 2 65 1 (omega arith) (omega arith) (λ e he.
     takes-ask 1 l 0 (omega (arith, most-one l (omega arith))) (omega arith) (λ i hi.
     gives (omega arith, omega arith, omega arith)))))))
@@ -84,6 +78,7 @@ module _ (n l : ℕ) (few : n ≤ 6) (short : l ≤ 32) where
       takes-ask 2 201 0 (omega arith) (omega arith) (λ d hd.
       gives tt)))
 
+-- a model takes at most 33,664 bytes
 pub takes-model : Takes Any 1 33664 modelForm
 unfolding modelForm
 takes-model =

@@ -1,35 +1,33 @@
 -- The round trip of a model, part by part.
 use mathlib.Core.Bool.{Bool, true, false, cond}
-use mathlib.Core.List.{List, [], _∷_, _++_, append-assoc}
-use mathlib.Core.Path.{_≡_, refl, sym, ap, _∙_, subst}
-use Prim.Native.Nat.{ℕ, zero, suc, _+_, _*_, _^_, _≤_, _<_}
+use mathlib.Core.List.{List, _++_, append-assoc}
+use mathlib.Core.Path.{_≡_, refl, ap, _∙_, subst}
+use Prim.Native.Nat.{ℕ, zero, suc, _^_, _≤_, _<_}
 use native.Mathlib.Omega.{arith}
 use borrow.Author.Tests.{ne-eqb, eqb-false}
 use lib.Dec.{eqb}
-use lib.ListN.{take}
 use Rattle.codec.specs.Number.{got, bytesOf}
-use Rattle.codec.specs.Form.{Form, done, ask, fault, readIn, array, _>>=_}
-use Rattle.codec.specs.Arrays.{AreBytes, Packed, each}
+use Rattle.codec.specs.Form.{Form, fault, readIn}
+use Rattle.codec.specs.Arrays.{AreBytes}
 use Rattle.codec.proofs.FormLaws.{Finds, finished, after}
-use Rattle.codec.proofs.FormTrip.{Codes, same-got, numbered, ask-there, parted, bytes-behind, codes-array}
-use Rattle.bounds.specs.declared.Bounds.{Bounds}
-use Rattle.bounds.specs.Bounds.{noBounds, boundsForm}
+use Rattle.codec.proofs.FormTrip.{Codes, same-got, numbered, ask-there, parted, bytes-behind}
+use Rattle.bounds.specs.Bounds.{boundsForm}
 use Rattle.bounds.specs.Limits.{BoundsLimits}
 use Rattle.bounds.specs.Written.{boundsBytes}
 use Rattle.bounds.proofs.BoundTrip.{codes-bounds}
 use Rattle.model.specs.declared.Edge.{Edge}
-use Rattle.model.specs.declared.Model.{Model}
 use Rattle.model.specs.declared.reader.Head.{Head}
 use Rattle.model.specs.declared.reader.Goal.{Goal}
-use Rattle.model.specs.Models.{noEdge, assembled, positive, headForm, edgeForm, goalForm, modelForm}
-use Rattle.model.specs.Limits.{EdgeLimits, ModelLimits}
-use Rattle.model.specs.Written.{headBytes, edgeBytes, goalBytes, modelBytes}
+use Rattle.model.specs.Models.{positive, headForm, edgeForm, goalForm}
+use Rattle.model.specs.Limits.{EdgeLimits}
+use Rattle.model.specs.Written.{headBytes, edgeBytes, goalBytes}
 
 -- ---- numbers that must not be 0
 pub positive-there : {A : Type 0} {F : Form A} {v : ℕ} {s t : List ℕ} {a : A} → 1 ≤ v → Finds F s (got a t)
     → Finds (positive v F) s (got a t)
 positive-there {v = v} l f = rw (ne-eqb v 0 (λ e. omega arith)) f
 
+-- what is found behind a number that must not be 0
 pub positive-back : {A : Type 0} (F : Form A) (v : ℕ) {s t : List ℕ} {a : A} → Finds (positive v F) s (got a t)
     → (1 ≤ v) × Finds F s (got a t)
 unfolding readIn
@@ -59,9 +57,11 @@ pub record HeadLimits (h : Head) : Type 0 where
   pub edges : h .edges ≤ 64
   pub initial : h .initial < h .locations
 
+-- a head's bytes
 abbrev pub headOf : Head → List ℕ
-headOf h = bytesOf (h .clocks) ++ (bytesOf (h .locations) ++ (bytesOf (h .edges) ++ bytesOf (h .initial)))
+headOf h = headBytes (h .clocks) (h .locations) (h .edges) (h .initial)
 
+-- a head's bytes are read as it, and only they
 pub codes-head : Codes headForm HeadLimits headOf
 unfolding headForm readIn
 codes-head = record { there = to; back = from }
@@ -149,9 +149,11 @@ module _ (n l : ℕ) (few : n ≤ 6) (short : l ≤ 32) where
     pub list : BoundsLimits n (g .list)
     pub depth : g .depth ≤ 200
 
+  -- a goal's bytes
   abbrev pub goalOf : Goal → List ℕ
-  goalOf g = bytesOf (g .target) ++ (boundsBytes n (g .list) ++ bytesOf (g .depth))
+  goalOf g = goalBytes n (g .target) (g .list) (g .depth)
 
+  -- a goal's bytes are read as it, and only they
   pub codes-goal : Codes (goalForm n l) GoalLimits goalOf
   unfolding goalForm readIn
   codes-goal = record { there = to; back = from }

@@ -12,23 +12,23 @@ use Rattle.numbers.specs.Numbers.{Num, −∞, fin, Within}
 use Rattle.numbers.specs.Words.{number}
 use Rattle.algebra.specs.Vectors.{entry}
 use Rattle.sets.specs.Limits.{Loose}
+use Rattle.sets.proofs.FlatLaws.{in-range}
 use Rattle.runs.specs.Models.{invariant, edge, noEdge}
 use Rattle.runs.specs.Models.{SideLimits, DifferenceLimits, BoundLimits, All, BoundsLimits, Rising, EdgeLimits}
 use Rattle.runs.specs.Models.{ModelLimits}
 use Rattle.runs.proofs.Loops.{cond-case}
 use Rattle.codec.specs.Arrays.{All as Each}
-use Rattle.codec.proofs.PackedLaws.{inside, check-each}
+use Rattle.codec.proofs.PackedLaws.{check-each}
 use Rattle.bounds.specs.declared.Kind.{Kind}
 use Rattle.bounds.specs.declared.Kind.the-variants.{AtMost, AtLeast, DifferAtMost, DifferAtLeast, HalfSpace}
 use Rattle.bounds.specs.declared.Bound.{Bound as Record}
 use Rattle.bounds.specs.declared.Bounds.{Bounds}
-use Rattle.bounds.specs.Bounds.{noBounds, entryCount}
+use Rattle.bounds.specs.Bounds.{entryCount}
 use Rattle.bounds.specs.Limits.{EntryLimits, DifferLimits, HalfLimits, KindLimits}
 use Rattle.bounds.specs.Limits.{BoundLimits as BoundFits, BoundsLimits as BoundsFit}
 use Rattle.bounds.proofs.LimitLaws.{not-negative}
 use Rattle.model.specs.declared.Edge.{Edge as EdgeRecord}
 use Rattle.model.specs.declared.Model.{Model as ModelRecord}
-use Rattle.model.specs.Models.{noEdge as blankEdge}
 use Rattle.model.specs.Limits.{EdgeLimits as EdgeFits, ModelLimits as ModelFits}
 use Rattle.model.specs.Plain.{boundBy, boundsOf, clocksOf, edgeOf, plain}
 
@@ -51,7 +51,7 @@ module _ {A B : Type 0} (f : A → B) (n : ℕ) (xs : List A) (l : n ≤ length 
 
   first-at : (q : ℕ) (d : A) (e : B) → q < n → getD (map f (take n xs)) q e ≡ f (getD xs q d)
   first-at q d e h =
-      inside (map f (take n xs)) q e (f d) (omega (arith, first-many)) ∙ List·getD-map f (take n xs) q d
+      in-range (map f (take n xs)) q e (f d) (omega (arith, first-many)) ∙ List·getD-map f (take n xs) q d
       ∙ ap f (getD-take n xs q d h)
 
 -- ---- a bound
@@ -102,9 +102,11 @@ kind-plain n b DifferAtMost w = differ-plain n b w
 kind-plain n b DifferAtLeast w = differ-plain n b w
 kind-plain n b HalfSpace w = half-plain n b w
 
+-- a bound
 pub bound-plain : (n : ℕ) (b : Record) → BoundFits n b → BoundLimits n (boundBy n b (b .kind))
 bound-plain n b w = kind-plain n b (b .kind) (w .fits)
 
+-- a list of bounds
 pub bounds-plain : (n : ℕ) (bs : Bounds) → BoundsFit n bs → BoundsLimits n (boundsOf n bs)
 bounds-plain n bs w =
     record {
@@ -126,9 +128,11 @@ rising low n (suc k) i bits l h =
     (λ e. (l, omega arith, rising (suc i) n k (i + 1) (bits / 2) (omega arith) (omega arith)))
     (λ e. rising low n k (i + 1) (bits / 2) (omega arith) (omega arith))
 
+-- the clocks of a reset set rise
 pub resets-plain : (n bits : ℕ) → Rising 0 n (clocksOf n 0 bits)
 resets-plain n bits = rising 0 n n 0 bits (omega arith) (omega arith)
 
+-- an edge
 pub edge-plain : (n l : ℕ) (e : EdgeRecord) → EdgeFits n l e → EdgeLimits n l (edgeOf n e)
 edge-plain n l e w =
     record {
@@ -143,11 +147,13 @@ module _ (m : ModelRecord) (w : ModelFits m) where
   abbrev n : ℕ
   n = m .clocks
 
+  -- how many locations there are
   pub locations-many : length (plain m .system .invariants) ≡ m .locations
   locations-many =
       first-many (boundsOf n) (m .locations) (m .invariants)
       (omega (arith, w .invariants .few, w .invariants .long))
 
+  -- how many edges there are
   pub edges-many : length (plain m .system .edges) ≡ m .edges
   edges-many = first-many (edgeOf n) (m .edges) (m .steps) (omega (arith, w .edges .few, w .edges .long))
 
@@ -158,17 +164,21 @@ module _ (m : ModelRecord) (w : ModelFits m) where
       first-at (boundsOf n) (m .locations) (m .invariants)
       (omega (arith, w .invariants .few, w .invariants .long)) q d []
 
+  -- the same of an edge
   pub edge-at : (d : EdgeRecord) (e : ℕ) → e < m .edges
       → edge (plain m .system) e ≡ edgeOf n (getD (m .steps) e d)
   edge-at d e =
       first-at (edgeOf n) (m .edges) (m .steps) (omega (arith, w .edges .few, w .edges .long)) e d noEdge
 
+  -- the limits of an item that is read so
   pub invariant-fits : (d : Bounds) (q : ℕ) → q < m .locations → BoundsFit n (getD (m .invariants) q d)
   invariant-fits d q l = check-each d (w .invariants) q (omega (arith, w .invariants .few)) .used l
 
+  -- the same of an edge
   pub edge-fits : (d : EdgeRecord) (e : ℕ) → e < m .edges → EdgeFits n (m .locations) (getD (m .steps) e d)
   edge-fits d e l = check-each d (w .edges) e (omega (arith, w .edges .few)) .used l
 
+  -- the model is in the plain limits
   pub model-plain : ModelLimits (plain m)
   model-plain =
       record {

@@ -1,20 +1,22 @@
 -- What holds of reading and writing a model.
-use mathlib.Core.List.{List, [], _∷_, _++_, append-nil}
+use mathlib.Core.List.{List, [], _∷_, append-nil}
 use mathlib.Core.Path.{_≡_, refl, sym, ap, _∙_, subst}
 use Prim.Native.Nat.{ℕ, _≤_, _<_}
 use native.Mathlib.Omega.{arith}
-use lib.ListN.{length, take}
+use lib.ListN.{length, getD, take}
+use lib.Seq.{take-take}
+use Rattle.numbers.specs.declared.Refusal.{Refusal}
 use Rattle.numbers.proofs.RefusalLaws.{number-inj}
 use Rattle.codec.specs.declared.Step.{Step}
 use Rattle.codec.specs.declared.Step.the-variants.{At, Refused as Stopped}
 use Rattle.codec.specs.Number.{Got, got, refused}
 use Rattle.codec.specs.Form.{readIn}
 use Rattle.codec.specs.Arrays.{AreBytes}
-use Rattle.codec.proofs.FormLaws.{Finds}
 use Rattle.model.specs.declared.Model.{Model}
+use Rattle.model.specs.declared.Outline.{Outline}
 use Rattle.model.specs.declared.Written.{Written}
 use Rattle.model.specs.declared.Written.the-variants.{Bytes as Count, Refused}
-use Rattle.model.specs.Models.{modelForm, noModel}
+use Rattle.model.specs.Models.{modelForm, pastEdge}
 use Rattle.model.specs.Limits.{ModelLimits}
 use Rattle.model.specs.Written.{modelBytes}
 use Rattle.model.specs.Answers.{
@@ -23,7 +25,6 @@ use Rattle.model.specs.Answers.{
   refusal,
   wholly,
   readOf,
-  readingSaid,
   Stands,
   ReadsModel,
   writtenSaid,
@@ -32,6 +33,7 @@ use Rattle.model.specs.Answers.{
   short,
   wrote,
 }
+use Rattle.model.specs.Outlines.{modelBy, ReadsOutline}
 use Rattle.model.proofs.WholeTrip.{model-there, model-back}
 use Rattle.model.proofs.ModelSize as sizes
 
@@ -65,6 +67,10 @@ size = sizes.size
 pub first-bytes : (s : List ℕ) → readOf (take 33665 s) ≡ readOf s
 first-bytes = sizes.first-bytes
 
+-- and so does reading more of them
+pub first-many : (s : List ℕ) (k : ℕ) → 33665 ≤ k → readOf (take k s) ≡ readOf s
+first-many s k h = sym (first-bytes (take k s)) ∙ ap readOf (take-take 33665 k s h) ∙ first-bytes s
+
 -- ---- the contracts settle the answers
 same-number : {A : Type 0} {a b : ℕ} → _≡_ {A = Said A} (refusal a) (refusal b) → a ≡ b
 same-number q = cc
@@ -83,6 +89,36 @@ read-settled s (Stopped e) (Stopped f) m n v w =
     (ap Stopped (number-inj e f (same-number (v .said ∙ sym (w .said)))), v .beside e refl ∙ sym (w .beside f refl))
 read-settled s (At a) (Stopped f) m n v w = absurd (apart (v .said ∙ sym (w .said)))
 read-settled s (Stopped e) (At b) m n v w = absurd (apart (w .said ∙ sym (v .said)))
+
+-- two answers of `read_outline` to the same bytes: the places may differ, and what stands there is the same
+pub record SameOutline (s : List ℕ) (p q : Step) (o u : Outline) : Type 0 where
+  pub step : p ≡ q
+  pub model : modelBy s o ≡ modelBy s u
+  pub sources : (e : ℕ) → e < o .edges → getD (o .sources) e 0 ≡ getD (u .sources) e 0
+  pub beside : (e : Refusal) → p ≡ Stopped e → o ≡ u
+
+pub outline-settled : (s : List ℕ) (p q : Step) (o u : Outline) → ReadsOutline s p o → ReadsOutline s q u
+    → SameOutline s p q o u
+outline-settled s (At a) (At b) o u v w =
+    let same : modelBy s o ≡ modelBy s u = same-value (v .said ∙ sym (w .said)) in
+    record {
+      step = ap At (v .whole a refl ∙ sym (w .whole b refl));
+      model = same;
+      sources = λ e h.
+          v .holds a refl .sources e h ∙ ap (λ (m : Model). getD (m .steps) e pastEdge .source) same
+          ∙ sym (w .holds b refl .sources e (subst (λ (m : Model). e < m .edges) same h));
+      beside = λ e r. absurd (let z : _≡_ {A = ℕ} 0 1 = cc in omega arith);
+    }
+outline-settled s (Stopped e) (Stopped f) o u v w =
+    let same : o ≡ u = v .beside e refl ∙ sym (w .beside f refl) in
+    record {
+      step = ap Stopped (number-inj e f (same-number (v .said ∙ sym (w .said))));
+      model = ap (modelBy s) same;
+      sources = λ i h. ap (λ (x : Outline). getD (x .sources) i 0) same;
+      beside = λ i r. same;
+    }
+outline-settled s (At a) (Stopped f) o u v w = absurd (apart (v .said ∙ sym (w .said)))
+outline-settled s (Stopped e) (At b) o u v w = absurd (apart (w .said ∙ sym (v .said)))
 
 same-answer : (r q : Written) → writtenSaid r ≡ writtenSaid q → r ≡ q
 same-answer (Count a) (Count b) e = ap Count (same-value e)

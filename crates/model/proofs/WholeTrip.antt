@@ -1,11 +1,10 @@
 -- The round trips of a whole model.
-use mathlib.Core.List.{List, [], _∷_, _++_, append-assoc, append-nil}
-use mathlib.Core.Path.{_≡_, refl, sym, ap, _∙_, subst}
-use Prim.Native.Nat.{ℕ, _≤_, _<_}
-use native.Mathlib.Omega.{arith}
+use mathlib.Core.List.{List, _++_, append-assoc}
+use mathlib.Core.Path.{_≡_, sym, ap, _∙_, subst}
+use Prim.Native.Nat.{ℕ}
 use lib.ListN.{take}
-use Rattle.codec.specs.Number.{Got, got, refused}
-use Rattle.codec.specs.Form.{Form, done, readIn, array, _>>=_}
+use Rattle.codec.specs.Number.{got}
+use Rattle.codec.specs.Form.{done, readIn, array, _>>=_}
 use Rattle.codec.specs.Arrays.{AreBytes, Packed, each}
 use Rattle.codec.proofs.FormLaws.{Finds, finished, after}
 use Rattle.codec.proofs.FormTrip.{Codes, same-got, parted, bytes-behind, codes-array}
@@ -20,8 +19,7 @@ use Rattle.model.specs.declared.reader.Head.{Head}
 use Rattle.model.specs.declared.reader.Goal.{Goal}
 use Rattle.model.specs.Models.{noEdge, assembled, headForm, edgeForm, goalForm, modelForm}
 use Rattle.model.specs.Limits.{EdgeLimits, ModelLimits}
-use Rattle.model.specs.Written.{headBytes, edgeBytes, goalBytes, modelBytes}
-use Rattle.model.specs.Answers.{Said, value, refusal, wholly, readOf, Stands}
+use Rattle.model.specs.Written.{edgeBytes, goalBytes, modelBytes}
 use Rattle.model.proofs.ModelTrip.{HeadLimits, headOf, codes-head, codes-edge, GoalLimits, goalOf, codes-goal}
 
 regroup : (a b d e t : List ℕ) → (a ++ (b ++ (d ++ e))) ++ t ≡ a ++ (b ++ (d ++ (e ++ t)))
@@ -66,8 +64,9 @@ model-there m t w =
     } in
     let last : GoalLimits (m .clocks) (m .locations) (head .clocks) (head .locations) g =
     record { target = w .numbers .target; list = w .list; depth = w .numbers .depth } in
-    rw (regroup (headBytes m) (each (boundsBytes (m .clocks)) (take (m .locations) (m .invariants)))
-    (each (edgeBytes (m .clocks)) (take (m .edges) (m .steps))) (goalBytes m) t)
+    rw (regroup (headOf h) (each (boundsBytes (m .clocks)) (take (m .locations) (m .invariants)))
+    (each (edgeBytes (m .clocks)) (take (m .edges) (m .steps)))
+    (goalBytes (m .clocks) (m .target) (m .list) (m .depth)) t)
     (after headForm _ (codes-head .there h _ head)
     (after (array 32 noBounds (m .locations) (boundsForm (m .clocks))) _
     (invariants h head .there (m .invariants) _ (w .invariants))
@@ -153,6 +152,7 @@ module _ (m : Model) (s t : List ℕ) where
         from-edges (two .part) (two .rest) (back .0) (bytes-behind (Is (two .part)) (two .rest) hu (back .1))
         (e ∙ ap (_++_ (headOf h)) (back .1)) (two .second)
 
+  -- what is read as a model is in limits and is its bytes
   pub model-back : AreBytes s → Finds modelForm s (got m t) → ModelLimits m × (s ≡ modelBytes m ++ t)
   unfolding modelForm Whole
   model-back hs f =

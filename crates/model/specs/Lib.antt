@@ -3,3 +3,5 @@ pub mod Limits
 pub mod Written
 pub mod Answers
 pub mod Plain
+pub mod Outlines
+pub mod Surveys

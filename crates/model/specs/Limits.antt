@@ -14,20 +14,21 @@ pub record EdgeLimits (n l : ℕ) (e : Edge) : Type 0 where
   pub guard : BoundsLimits n (e .guard)
   pub resets : e .resets < 2 ^ n
 
--- the counts and the numbers of a model: 1 to 6 clocks, 1 to 32 locations, 0 to 64 edges, depth 0 to 200
-pub record NumberLimits (m : Model) : Type 0 where
-  pub some-clocks : 1 ≤ m .clocks
-  pub clocks : m .clocks ≤ 6
-  pub some-locations : 1 ≤ m .locations
-  pub locations : m .locations ≤ 32
-  pub edges : m .edges ≤ 64
-  pub initial : m .initial < m .locations
-  pub target : m .target < m .locations
-  pub depth : m .depth ≤ 200
+-- the numbers of a model: n clocks (1 to 6), l locations (1 to 32), e edges (0 to 64), initial location i, target t,
+-- depth d (0 to 200)
+pub record NumberLimits (n l e i t d : ℕ) : Type 0 where
+  pub some-clocks : 1 ≤ n
+  pub clocks : n ≤ 6
+  pub some-locations : 1 ≤ l
+  pub locations : l ≤ 32
+  pub edges : e ≤ 64
+  pub initial : i < l
+  pub target : t < l
+  pub depth : d ≤ 200
 
 -- a model in limits
 pub record ModelLimits (m : Model) : Type 0 where
-  pub numbers : NumberLimits m
+  pub numbers : NumberLimits (m .clocks) (m .locations) (m .edges) (m .initial) (m .target) (m .depth)
   pub invariants : Packed (BoundsLimits (m .clocks)) noBounds 32 (m .locations) (m .invariants)
   pub edges : Packed (EdgeLimits (m .clocks) (m .locations)) noEdge 64 (m .edges) (m .steps)
   pub list : BoundsLimits (m .clocks) (m .list)

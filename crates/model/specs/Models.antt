@@ -72,10 +72,11 @@ edgeForm n l =
     ask (2 ^ n) (λ r.
     done (record { source = s; destination = d; guard = g; resets = r }))))
 
--- the invariant lists of the locations, and the edges
+-- the invariant lists of the locations
 abbrev pub invariantsForm : ℕ → ℕ → Form (List Bounds)
 invariantsForm n count = array 32 noBounds count (boundsForm n)
 
+-- the edges
 abbrev pub edgesForm : ℕ → ℕ → ℕ → Form (List Edge)
 edgesForm n l count = array 64 noEdge count (edgeForm n l)
 

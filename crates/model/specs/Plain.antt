@@ -34,6 +34,7 @@ clocksOf zero i bits = []
 clocksOf (suc n) i bits =
     cond (eqb (bits % 2) 1) (i ∷ clocksOf n (i + 1) (bits / 2)) (clocksOf n (i + 1) (bits / 2))
 
+-- an edge
 abbrev pub edgeOf : ℕ → EdgeRecord → Edge
 edgeOf n e =
     record {

@@ -10,6 +10,7 @@ use numbers::Refusal;
 mod limits;
 mod reader;
 mod writer;
+pub mod places; // places.rt: where the parts of a model stand in its bytes
 
 // An edge. Bit i of `resets` stands for clock i.
 pub struct Edge {
@@ -30,6 +31,26 @@ pub struct Model {
     pub target: u32,
     pub list: Bounds,
     pub depth: u32,
+}
+
+// What a walk needs of a model's bytes: its numbers, each edge's source, and where its lists and edges stand.
+pub struct Outline {
+    pub clocks: u32,
+    pub locations: u32,
+    pub edges: u32,
+    pub initial: u32,
+    pub invariants: [usize; 32],
+    pub steps: [usize; 64],
+    pub sources: [u32; 64],
+    pub target: u32,
+    pub list: usize,
+    pub depth: u32,
+}
+
+// The answer of `read_outline`: where the bytes end or why they are refused, and the outline beside it.
+pub struct Outlined {
+    pub step: Step,
+    pub outline: Outline,
 }
 
 // The answer of `read`: where the bytes end or why they are refused, and the model beside it.
@@ -69,15 +90,47 @@ fn reset_sets(n: u32) -> u32
 pub fn read(bytes: &[u8]) -> Reading
     ensures { λ r. ⌜ ReadsModel (now (bytes .entry)) (r .step) (r .model) ⌝ }
 {
-    let r = reader::read_model(bytes);
-    let step = r.step;
-    let model = r.model;
-    let Step::At(end) = step else {
-        return reader::refused_model(step.why());
+    let h = reader::read_head(bytes);
+    let head_step = h.step;
+    let head = h.head;
+    let Step::At(after_head) = head_step else {
+        return reader::refused_model(head_step.why());
+    };
+    let n = head.clocks;
+    let l = head.locations;
+    let i = reader::read_invariants(bytes, after_head, n, l as usize);
+    let invariants_step = i.step;
+    let invariants = i.invariants;
+    let Step::At(after_invariants) = invariants_step else {
+        return reader::refused_model(invariants_step.why());
+    };
+    let e = reader::read_edges(bytes, after_invariants, n, l, head.edges as usize);
+    let edges_step = e.step;
+    let steps = e.steps;
+    let Step::At(after_edges) = edges_step else {
+        return reader::refused_model(edges_step.why());
+    };
+    let g = reader::read_goal(bytes, after_edges, n, l);
+    let goal_step = g.step;
+    let goal = g.goal;
+    let Step::At(end) = goal_step else {
+        return reader::refused_model(goal_step.why());
     };
     if end < bytes.len() {
         return reader::refused_model(Refusal::Bytes);
     }
+    let list = goal.list;
+    let model = Model {
+        clocks: n,
+        locations: l,
+        edges: head.edges,
+        initial: head.initial,
+        invariants,
+        steps,
+        target: goal.target,
+        list,
+        depth: goal.depth,
+    };
     Reading {
         step: Step::At(bytes.len()),
         model,

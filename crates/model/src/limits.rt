@@ -32,22 +32,6 @@ fn list_fits(bs: Bounds, n: u32, i: usize, count: usize) -> bool
     list_blank(bs)
 }
 
-fn invariants_fit(invariants: [Bounds; 32], n: u32, count: usize) -> bool
-    requires { ⌜ (n ≤ 6) × (count ≤ 32) ⌝ }
-    ensures { λ r. ⌜ Tells r (Packed (BoundsLimits n) noBounds 32 count invariants) ⌝ }
-{
-    let mut i = 0;
-    while i < 32 {
-        let bs = invariants[i];
-        let fits = list_fits(bs, n, i, count);
-        if !fits {
-            return false;
-        }
-        i += 1;
-    }
-    true
-}
-
 fn edge_fits(e: Edge, n: u32, l: u32) -> bool
     requires { ⌜ n ≤ 6 ⌝ }
     ensures { λ r. ⌜ Tells r (EdgeLimits n l e) ⌝ }
@@ -94,69 +78,64 @@ fn step_fits(e: Edge, n: u32, l: u32, i: usize, count: usize) -> bool
     edge_blank(e)
 }
 
-fn edges_fit(steps: [Edge; 64], n: u32, l: u32, count: usize) -> bool
-    requires { ⌜ (n ≤ 6) × (count ≤ 64) ⌝ }
-    ensures { λ r. ⌜ Tells r (Packed (EdgeLimits n l) noEdge 64 count steps) ⌝ }
-{
-    let mut i = 0;
-    while i < 64 {
-        let e = steps[i];
-        let fits = step_fits(e, n, l, i, count);
-        if !fits {
-            return false;
-        }
-        i += 1;
-    }
-    true
-}
-
 // The counts and the numbers of a model.
-fn numbers_fit(m: Model) -> bool
-    ensures { λ r. ⌜ Tells r (NumberLimits m) ⌝ }
+fn numbers_fit(n: u32, l: u32, edges: u32, initial: u32, target: u32, depth: u32) -> bool
+    ensures { λ r. ⌜ Tells r (NumberLimits n l edges initial target depth) ⌝ }
 {
-    if m.clocks == 0 {
+    if n == 0 {
         return false;
     }
-    if 6 < m.clocks {
+    if 6 < n {
         return false;
     }
-    if m.locations == 0 {
+    if l == 0 {
         return false;
     }
-    if 32 < m.locations {
+    if 32 < l {
         return false;
     }
-    if 64 < m.edges {
+    if 64 < edges {
         return false;
     }
-    if m.locations <= m.initial {
+    if l <= initial {
         return false;
     }
-    if m.locations <= m.target {
+    if l <= target {
         return false;
     }
-    m.depth <= 200
+    depth <= 200
 }
 
 // Whether a model is in its limits.
 pub fn model_fits(m: Model) -> bool
     ensures { λ r. ⌜ Tells r (ModelLimits m) ⌝ }
 {
+    let n = m.clocks;
+    let l = m.locations;
     let list = m.list;
-    let fits = numbers_fit(m);
+    let fits = numbers_fit(n, l, m.edges, m.initial, m.target, m.depth);
     if !fits {
         return false;
     }
-    let n = m.clocks;
-    let invariants = m.invariants;
-    let fits_invariants = invariants_fit(invariants, n, m.locations as usize);
-    if !fits_invariants {
-        return false;
+    let locations = l as usize;
+    let mut i = 0;
+    while i < 32 {
+        let bs = m.invariants[i];
+        let fits_list = list_fits(bs, n, i, locations);
+        if !fits_list {
+            return false;
+        }
+        i += 1;
     }
-    let steps = m.steps;
-    let fits_edges = edges_fit(steps, n, m.locations, m.edges as usize);
-    if !fits_edges {
-        return false;
+    let edges = m.edges as usize;
+    let mut k = 0;
+    while k < 64 {
+        let e = m.steps[k];
+        let fits_edge = step_fits(e, n, l, k, edges);
+        if !fits_edge {
+            return false;
+        }
+        k += 1;
     }
     bounds::limits::bounds_fit(list, n)
 }

@@ -1,11 +1,12 @@
-// A model read from bytes. The first fault in reading order is the refusal.
+// The parts of a model, read from bytes. The first fault in reading order is the refusal.
 ghost use mathlib.Core.Path.{_≡_};
 ghost use Prim.Native.Nat.{_≤_, _^_};
 ghost use lib.ListN.{drop};
 ghost use Rattle.codec.specs.Form.{readIn};
 ghost use Rattle.codec.specs.Answers.{Reads, ReadsAt, Refuses, ReadsNumber};
 ghost use Rattle.model.specs.Models.{noEdge, noInvariants, noEdges, noHead, noGoal, noModel};
-ghost use Rattle.model.specs.Models.{counted, headForm, invariantsForm, edgeForm, edgesForm, goalForm, modelForm};
+ghost use Rattle.model.specs.Models.{counted, headForm, invariantsForm, edgeForm, edgesForm};
+ghost use Rattle.model.specs.Surveys.{ReadsGoal};
 use crate::Edge;
 use crate::Model;
 use crate::Reading;
@@ -49,9 +50,11 @@ pub struct EdgesRead {
     pub steps: [Edge; 64],
 }
 
+// The list of the goal stands at `place`.
 pub struct GoalRead {
     pub step: Step,
     pub goal: Goal,
+    pub place: usize,
 }
 
 fn refused_head(e: Refusal) -> HeadRead
@@ -84,7 +87,7 @@ fn read_positive(s: &[u8], at: usize, limit: u32) -> Number
 }
 
 // Clocks, locations, edges, initial location.
-fn read_head(s: &[u8]) -> HeadRead
+pub fn read_head(s: &[u8]) -> HeadRead
     ensures { λ r. ⌜ Reads (now (s .entry)) noHead (readIn headForm (now (s .entry))) (r .step) (r .head) ⌝ }
 {
     let a = read_positive(s, 0, 7);
@@ -132,7 +135,7 @@ fn read_head(s: &[u8]) -> HeadRead
 }
 
 // The invariant lists of the locations.
-fn read_invariants(s: &[u8], at: usize, n: u32, count: usize) -> InvariantsRead
+pub fn read_invariants(s: &[u8], at: usize, n: u32, count: usize) -> InvariantsRead
     requires { ⌜ (n ≤ 6) × (count ≤ 32) ⌝ }
     ensures { λ r. ⌜ ReadsAt (now (s .entry)) at (invariantsForm n count) noInvariants (r .step) (r .invariants) ⌝ }
 {
@@ -171,7 +174,7 @@ fn refused_edge(e: Refusal) -> EdgeRead
 }
 
 // An edge of a model with n clocks and l locations.
-fn read_edge(s: &[u8], at: usize, n: u32, l: u32) -> EdgeRead
+pub fn read_edge(s: &[u8], at: usize, n: u32, l: u32) -> EdgeRead
     requires { ⌜ n ≤ 6 ⌝ }
     ensures { λ r. ⌜ ReadsAt (now (s .entry)) at (edgeForm n l) noEdge (r .step) (r .edge) ⌝ }
 {
@@ -219,7 +222,7 @@ fn read_edge(s: &[u8], at: usize, n: u32, l: u32) -> EdgeRead
 }
 
 // The edges.
-fn read_edges(s: &[u8], at: usize, n: u32, l: u32, count: usize) -> EdgesRead
+pub fn read_edges(s: &[u8], at: usize, n: u32, l: u32, count: usize) -> EdgesRead
     requires { ⌜ (n ≤ 6) × (count ≤ 64) ⌝ }
     ensures { λ r. ⌜ ReadsAt (now (s .entry)) at (edgesForm n l count) noEdges (r .step) (r .steps) ⌝ }
 {
@@ -259,13 +262,14 @@ fn refused_goal(e: Refusal) -> GoalRead
     GoalRead {
         step: Step::Refused(e),
         goal,
+        place: 0,
     }
 }
 
 // Target location and list, depth.
-fn read_goal(s: &[u8], at: usize, n: u32, l: u32) -> GoalRead
+pub fn read_goal(s: &[u8], at: usize, n: u32, l: u32) -> GoalRead
     requires { ⌜ n ≤ 6 ⌝ }
-    ensures { λ r. ⌜ ReadsAt (now (s .entry)) at (goalForm n l) noGoal (r .step) (r .goal) ⌝ }
+    ensures { λ r. ⌜ ReadsGoal n l (now (s .entry)) at (r .step) (r .goal) (r .place) ⌝ }
 {
     let a = codec::read_below(s, at, l);
     let Number::Value {
@@ -297,6 +301,7 @@ fn read_goal(s: &[u8], at: usize, n: u32, l: u32) -> GoalRead
     GoalRead {
         step: Step::At(end),
         goal,
+        place: after_target,
     }
 }
 
@@ -318,54 +323,6 @@ pub fn refused_model(e: Refusal) -> Reading
     };
     Reading {
         step: Step::Refused(e),
-        model,
-    }
-}
-
-// A model at the start of some bytes.
-pub fn read_model(s: &[u8]) -> Reading
-    ensures { λ r. ⌜ Reads (now (s .entry)) noModel (readIn modelForm (now (s .entry))) (r .step) (r .model) ⌝ }
-{
-    let h = read_head(s);
-    let head_step = h.step;
-    let head = h.head;
-    let Step::At(after_head) = head_step else {
-        return refused_model(head_step.why());
-    };
-    let n = head.clocks;
-    let l = head.locations;
-    let i = read_invariants(s, after_head, n, l as usize);
-    let invariants_step = i.step;
-    let invariants = i.invariants;
-    let Step::At(after_invariants) = invariants_step else {
-        return refused_model(invariants_step.why());
-    };
-    let e = read_edges(s, after_invariants, n, l, head.edges as usize);
-    let edges_step = e.step;
-    let steps = e.steps;
-    let Step::At(after_edges) = edges_step else {
-        return refused_model(edges_step.why());
-    };
-    let g = read_goal(s, after_edges, n, l);
-    let goal_step = g.step;
-    let goal = g.goal;
-    let Step::At(end) = goal_step else {
-        return refused_model(goal_step.why());
-    };
-    let list = goal.list;
-    let model = Model {
-        clocks: n,
-        locations: l,
-        edges: head.edges,
-        initial: head.initial,
-        invariants,
-        steps,
-        target: goal.target,
-        list,
-        depth: goal.depth,
-    };
-    Reading {
-        step: Step::At(end),
         model,
     }
 }

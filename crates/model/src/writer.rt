@@ -1,7 +1,7 @@
 // A model in its limits, written as bytes from a place on. Each function says where its bytes end.
 ghost use mathlib.Core.List.{_++_};
 ghost use mathlib.Core.Path.{_≡_};
-ghost use Prim.Native.Nat.{_≤_};
+ghost use Prim.Native.Nat.{_≤_, _<_};
 ghost use lib.ListN.{length, take, drop};
 ghost use Rattle.codec.specs.Arrays.{each, Packed};
 ghost use Rattle.codec.specs.Answers.{Writes, Room};
@@ -16,14 +16,15 @@ use crate::Model;
 use bounds::Bounds;
 
 // Clocks, locations, edges, initial location.
-fn write_head(out: &mut [u8], m: Model) -> usize
-    requires { ⌜ ModelLimits m × Room 0 (headBytes m) (now out) ⌝ }
-    ensures { λ r. ⌜ Writes (now (out .entry)) 0 (headBytes m) (now (out .exit)) r ⌝ }
+fn write_head(out: &mut [u8], n: u32, l: u32, edges: u32, initial: u32) -> usize
+    requires { ⌜ (n ≤ 6) × (l ≤ 32) × (edges ≤ 64) × (initial < l) ⌝ }
+    requires { ⌜ Room 0 (headBytes n l edges initial) (now out) ⌝ }
+    ensures { λ r. ⌜ Writes (now (out .entry)) 0 (headBytes n l edges initial) (now (out .exit)) r ⌝ }
 {
-    let a = codec::write_number(&mut *out, 0, m.clocks);
-    let b = codec::write_number(&mut *out, a, m.locations);
-    let d = codec::write_number(&mut *out, b, m.edges);
-    codec::write_number(&mut *out, d, m.initial)
+    let a = codec::write_number(&mut *out, 0, n);
+    let b = codec::write_number(&mut *out, a, l);
+    let d = codec::write_number(&mut *out, b, edges);
+    codec::write_number(&mut *out, d, initial)
 }
 
 // The invariant lists of the locations.
@@ -78,14 +79,14 @@ fn write_edges(out: &mut [u8], at: usize, steps: [Edge; 64], n: u32, l: u32, cou
 }
 
 // Target location and list, depth.
-fn write_goal(out: &mut [u8], at: usize, m: Model) -> usize
-    requires { ⌜ ModelLimits m × Room at (goalBytes m) (now out) ⌝ }
-    ensures { λ r. ⌜ Writes (now (out .entry)) at (goalBytes m) (now (out .exit)) r ⌝ }
+fn write_goal(out: &mut [u8], at: usize, target: u32, list: Bounds, n: u32, depth: u32) -> usize
+    requires { ⌜ (n ≤ 6) × (target < 32) × BoundsLimits n list × (depth ≤ 200) ⌝ }
+    requires { ⌜ Room at (goalBytes n target list depth) (now out) ⌝ }
+    ensures { λ r. ⌜ Writes (now (out .entry)) at (goalBytes n target list depth) (now (out .exit)) r ⌝ }
 {
-    let list = m.list;
-    let a = codec::write_number(&mut *out, at, m.target);
-    let b = bounds::writer::write_bounds(&mut *out, a, list, m.clocks);
-    codec::write_number(&mut *out, b, m.depth)
+    let a = codec::write_number(&mut *out, at, target);
+    let b = bounds::writer::write_bounds(&mut *out, a, list, n);
+    codec::write_number(&mut *out, b, depth)
 }
 
 // A model at the start of an area.
@@ -93,12 +94,15 @@ pub fn write_model(out: &mut [u8], m: Model) -> usize
     requires { ⌜ ModelLimits m × Room 0 (modelBytes m) (now out) ⌝ }
     ensures { λ r. ⌜ Writes (now (out .entry)) 0 (modelBytes m) (now (out .exit)) r ⌝ }
 {
+    let n = m.clocks;
+    let l = m.locations;
     let invariants = m.invariants;
     let steps = m.steps;
-    let a = write_head(&mut *out, m);
-    let b = write_invariants(&mut *out, a, invariants, m.clocks, m.locations as usize);
-    let d = write_edges(&mut *out, b, steps, m.clocks, m.locations, m.edges as usize);
-    write_goal(&mut *out, d, m)
+    let list = m.list;
+    let a = write_head(&mut *out, n, l, m.edges, m.initial);
+    let b = write_invariants(&mut *out, a, invariants, n, l as usize);
+    let d = write_edges(&mut *out, b, steps, n, l, m.edges as usize);
+    write_goal(&mut *out, d, m.target, list, n, m.depth)
 }
 
 // Copies bytes to the start of an area that has room for them.

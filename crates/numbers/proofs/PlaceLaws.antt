@@ -8,10 +8,9 @@ use native.Mathlib.Numerals.{add-one}
 use native.Mathlib.Decide.{ℕ-discrete, decLt}
 use borrow.Author.Count.{below-more}
 use lib.IntN.{ℤ, pos}
-use lib.ListN.{length, getD, set, take, drop, replicate}
+use lib.ListN.{length, getD, set, replicate}
 use lib.ListN.{length-set, length-append, List·getD-append, List·getD-eq-default}
-use lib.Seq.{getD-set-same, getD-set-other, getD-take, getD-drop, getD-append-add}
-use borrow.Rule.Slice.PartMut.{mid-len}
+use lib.Seq.{getD-set-same, getD-set-other, getD-append-add}
 use lib.Signed.{mag}
 use mir.Syntax.{w32}
 use mir.Val.{toZ, ofZ}
@@ -19,9 +18,10 @@ use mir.Facts.{fits-ofZ}
 use Rattle.numbers.proofs.WordLaws.{back}
 use Rattle.numbers.specs.Numbers.{Num, −∞, _⊕_, _⊗_, ⨁, Within}
 use Rattle.numbers.specs.Words.{number}
-use Rattle.numbers.specs.Places.{Vec, entries, Each, sideOf, Mixed, Ended}
-use Rattle.numbers.specs.Weights.{Cap, free, bound, meet, allowed, capOf}
-use Rattle.numbers.proofs.NumberLaws.{⊗-within, ⨁-within}
+use Rattle.numbers.specs.Places.{Vec, entries, sideOf, Mixed, Lifted, Ended}
+use Rattle.numbers.specs.Weights.{Cap, bound, meet, allowed, capOf}
+use Rattle.numbers.proofs.NumberLaws.{⊗-low, ⊕-low, ⊗-within, ⨁-within}
+use Rattle.numbers.proofs.WeightLaws.{meet-turn}
 
 -- the largest of none
 pub ⨁-none : (f : ℕ → Num) → ⨁ 0 f ≡ −∞
@@ -40,71 +40,105 @@ pub side-within : {k l : ℕ} (d : ℕ) (a x : Vec)
 unfolding sideOf
 side-within d a x h g = ⨁-within d (λ j. a j ⊗ x j) (λ j l. ⊗-within (h j l) (g j l))
 
--- the words from p up to q
-module _ (p q : ℕ) (v : List ℤ) (h : p ≤ q) (g : q ≤ length v) where
-  -- how many they are
-  pub part-long : length (take (q - p) (drop p v)) ≡ q - p
-  part-long = mid-len p q v g
-
-  -- the number of each
-  pub part-at : (j : ℕ) → j < q - p → entries (take (q - p) (drop p v)) j ≡ entries v (p + j)
-  part-at j l = rw (getD-take, getD-drop)
-
-  -- they keep the limits of the whole
-  pub part-each : {k : ℕ} → Each k v → Each k (take (q - p) (drop p v))
-  part-each e = record {
-    each = λ j l. let b : j < q - p = omega (arith, part-long) in rw (part-at j b) (e .each (p + j) (omega arith));
-  }
-
--- ---- mixing in place
--- the places before j are done, and the rest is as at entry
-pub record Mixing (before : List ℤ) (s : Num) (h : List ℤ) (t : Num) (after : List ℤ) (j : ℕ) : Type 0 where
+-- ---- entries written in place: entry k becomes `want k` of what it was
+-- the places from `from` up to j are done, and the rest is as at entry
+pub record Filling (from : ℕ) (want : ℕ → Num → Num) (before after : List ℤ) (j : ℕ) : Type 0 where
+  pub begun : from ≤ j
   pub inside : j ≤ length before
   pub long : length after ≡ length before
-  pub done : (k : ℕ) → k < j → entries after k ≡ (s ⊗ entries before k) ⊕ (t ⊗ entries h k)
+  pub done : (k : ℕ) → k < j → from ≤ k → entries after k ≡ want k (entries before k)
   pub rest : (k : ℕ) → j ≤ k → getD after k (pos 0) ≡ getD before k (pos 0)
+  pub front : (k : ℕ) → k < from → getD after k (pos 0) ≡ getD before k (pos 0)
 
-module _ (before : List ℤ) (s : Num) (h : List ℤ) (t : Num) where
+module _ (from : ℕ) (want : ℕ → Num → Num) (before : List ℤ) where
   -- nothing is done yet
-  pub mixing-start : Mixing before s h t before 0
-  mixing-start = record { inside = omega arith; long = refl; done = λ k l. absurd (omega arith); rest = λ k l. refl }
-
-  -- one place more is done
-  pub mixing-next : (after : List ℤ) (j : ℕ) (v : ℤ) → Mixing before s h t after j → j < length before
-      → number v ≡ (s ⊗ entries after j) ⊕ (t ⊗ entries h j) → Mixing before s h t (set after j v) (j + 1)
-  mixing-next after j v m l e = record {
-    inside = omega arith;
-    long = length-set after j v ∙ m .long;
-    done = below-more (λ (k : ℕ). entries (set after j v) k ≡ (s ⊗ entries before k) ⊕ (t ⊗ entries h k)) j
-        (λ k b. let ne : k ≢ j = omega arith in rw (getD-set-other after j k v (pos 0) ne) (m .done k b))
-        (rw (getD-set-same after j v (pos 0) (omega (arith, m .long)), ← m .rest j (omega arith)) e);
-    rest = λ k b. let ne : k ≢ j = omega arith in getD-set-other after j k v (pos 0) ne ∙ m .rest k (omega arith);
+  pub filling-start : from ≤ length before → Filling from want before before from
+  filling-start h = record {
+    begun = omega arith;
+    inside = h;
+    long = refl;
+    done = λ k l b. absurd (omega arith);
+    rest = λ k l. refl;
+    front = λ k l. refl;
   }
 
-  -- all places are done
-  pub mixing-done : (after : List ℤ) (j : ℕ) → Mixing before s h t after j → length before ≤ j
-      → Mixed before s h t after
-  mixing-done after j m l = record { long = m .long; right = λ k b. m .done k (omega arith) }
+  -- one place more is as wanted already
+  pub filling-same : (after : List ℤ) (j : ℕ) → Filling from want before after j → j < length before
+      → entries after j ≡ want j (entries after j) → Filling from want before after (j + 1)
+  filling-same after j m l e = record {
+    begun = omega (arith, m .begun);
+    inside = omega arith;
+    long = m .long;
+    done = below-more (λ (k : ℕ). from ≤ k → entries after k ≡ want k (entries before k)) j (m .done)
+        (λ b. e ∙ ap (λ (z : ℤ). want j (number z)) (m .rest j (omega arith)));
+    rest = λ k b. m .rest k (omega arith);
+    front = m .front;
+  }
 
--- ---- weights place by place
--- no place sets a bound
-pub allowed-none : (g x : Vec) → free ≡ allowed 0 g x
-unfolding allowed
-allowed-none g x = refl
+  -- one place more is written
+  pub filling-next : (after : List ℤ) (j : ℕ) (v : ℤ) → Filling from want before after j → j < length before
+      → number v ≡ want j (entries after j) → Filling from want before (set after j v) (j + 1)
+  filling-next after j v m l e = record {
+    begun = omega (arith, m .begun);
+    inside = omega arith;
+    long = length-set after j v ∙ m .long;
+    done = below-more (λ (k : ℕ). from ≤ k → entries (set after j v) k ≡ want k (entries before k)) j
+        (λ k b f. let ne : k ≢ j = omega arith in rw (getD-set-other after j k v (pos 0) ne) (m .done k b f))
+        (λ f. rw (getD-set-same after j v (pos 0) (omega (arith, m .long)), ← m .rest j (omega arith)) e);
+    rest = λ k b. let ne : k ≢ j = omega arith in getD-set-other after j k v (pos 0) ne ∙ m .rest k (omega arith);
+    front = λ k b. let ne : k ≢ j = omega (arith, m .begun) in getD-set-other after j k v (pos 0) ne ∙ m .front k b;
+  }
 
--- one place more sets its bound
-pub allowed-more : (d : ℕ) (g x : Vec) → meet (allowed d g x) (bound (x d) (g d)) ≡ allowed (d + 1) g x
-unfolding allowed
-allowed-more d g x = rw add-one
+-- an entry x at place k, weighted by s, mixed with h weighted by t
+abbrev pub mixing : Num → List ℤ → Num → ℕ → Num → Num
+mixing s h t k x = (s ⊗ x) ⊕ (t ⊗ entries h k)
 
--- one place more of a weight, the bound r kept as bits
-pub weigh-next : (r : ℤ) (m j : ℕ) (g x : Vec) → mag r < 2147483648 → capOf (toZ w32 m) ≡ allowed j g x
-    → capOf r ≡ meet (capOf (toZ w32 m)) (bound (x j) (g j))
-    → (ofZ w32 r < 4294967296) × (capOf (toZ w32 (ofZ w32 r)) ≡ allowed (j + 1) g x)
-weigh-next r m j g x f h e = (
+-- an entry x at place k lifted by h weighted by t
+abbrev pub lifting : List ℤ → Num → ℕ → Num → Num
+lifting h t k x = x ⊕ (t ⊗ entries h k)
+
+-- an entry −∞ lifts nothing
+pub lifting-none : (x t : Num) {g : Num} → g ≡ −∞ → x ≡ x ⊕ (t ⊗ g)
+lifting-none x t e = sym (ap (λ (z : Num). x ⊕ z) (ap (λ (z : Num). t ⊗ z) e ∙ ⊗-low t) ∙ ⊕-low x)
+
+-- all places are mixed
+pub mixing-done : (before : List ℤ) (s : Num) (h : List ℤ) (t : Num) (after : List ℤ) (j : ℕ)
+    → Filling 0 (mixing s h t) before after j → length before ≤ j → Mixed before s h t after
+mixing-done before s h t after j m l =
+    record { long = m .long; right = λ k b. m .done k (omega arith) (omega arith) }
+
+-- all places from `from` on are lifted
+pub lifting-done : (from : ℕ) (before h : List ℤ) (t : Num) (after : List ℤ) (j : ℕ)
+    → Filling from (lifting h t) before after j → length before ≤ j → Lifted from before h t after
+lifting-done from before h t after j m l =
+    record { long = m .long; right = λ k f b. m .done k (omega arith) f; rest = m .front }
+
+-- ---- weights place by place, from the last
+-- the bound takes over what place k, the last of the first j, allows
+pub weigh-back : (j k : ℕ) (g x : Vec) (p q a : Cap) → j ≡ k + 1 → meet (allowed j g x) p ≡ a
+    → q ≡ meet p (bound (x k) (g k)) → meet (allowed k g x) q ≡ a
+weigh-back j k g x p q a e h r =
+    ap (λ (c : Cap). meet (allowed k g x) c) r
+    ∙ sym (meet-turn (allowed k g x) (bound (x k) (g k)) p)
+    ∙ ap (λ (c : Cap). meet c p) (allowed-more k g x ∙ ap (λ (i : ℕ). allowed i g x) (sym e))
+    ∙ h
+  where
+    allowed-more : (d : ℕ) (g x : Vec) → meet (allowed d g x) (bound (x d) (g d)) ≡ allowed (d + 1) g x
+    allowed-more d g x = unfold allowed in rw add-one
+
+-- the same where the new bound r is kept as bits
+pub weigh-next : (r : ℤ) (m j k : ℕ) (g x : Vec) (a : Cap) → mag r < 2147483648 → j ≡ k + 1
+    → meet (allowed j g x) (capOf (toZ w32 m)) ≡ a → capOf r ≡ meet (capOf (toZ w32 m)) (bound (x k) (g k))
+    → (ofZ w32 r < 4294967296) × (meet (allowed k g x) (capOf (toZ w32 (ofZ w32 r))) ≡ a)
+weigh-next r m j k g x a f e h q = (
   fits-ofZ {w = w32} {z = r} (record { sfits = f }) .fits,
-  ap capOf (back f) ∙ e ∙ ap (λ (q : Cap). meet q (bound (x j) (g j))) h ∙ allowed-more j g x,
+  weigh-back j k g x (capOf (toZ w32 m)) (capOf (toZ w32 (ofZ w32 r))) a e h (ap capOf (back f) ∙ q),
 )
+
+-- the bound alone is left
+pub weigh-all : (j : ℕ) (g x : Vec) (p a : Cap) → j ≡ 0 → meet (allowed j g x) p ≡ a → p ≡ a
+unfolding allowed meet
+weigh-all j g x p a e h = subst (λ (i : ℕ). meet (allowed i g x) p ≡ a) e h
 
 -- ---- a vector word by word
 -- the first j words are the clocks', and the rest is 0

@@ -10,7 +10,7 @@ use Rattle.numbers.specs.Numbers.{Num, −∞, fin, _≼_, atMost, _⊗_
 use Rattle.numbers.specs.Places.{Vec}
 use Rattle.numbers.specs.Weights.{Cap, free, cap, bound, lower, meet, allowed, value, weightOf}
 use Rattle.numbers.proofs.IntegerLaws.{sum, neg, hi-le, lo-le}
-use Rattle.numbers.proofs.NumberLaws.{low-≼, ≼-refl, ≼-trans, ≼-total, tells-atMost, dec-fin, not-fin}
+use Rattle.numbers.proofs.NumberLaws.{low-≼, ≼-refl, ≼-trans, ≼-antisym, ≼-total, tells-atMost, dec-fin, not-fin}
 use Rattle.numbers.proofs.NumberLaws.{⊗-low, ⊗-mono-l, ⊗-fin-r}
 
 -- a number is at most a bound
@@ -37,6 +37,55 @@ lower-iff c x y = go (atMost x y) refl
     go : (t : Bool) → atMost x y ≡ t → ((c ≼ x) × (c ≼ y)) ↔ (c ≼ cond t x y)
     go true e = (λ k. k .0, λ k. (k, ≼-trans k (tells-atMost x y .yes e)))
     go false e = (λ k. k .1, λ k. (≼-trans k (≼-total x y (tells-atMost x y .no e)), k))
+
+-- the smaller of numbers is known by what is at most it
+lower-by : {a b : Num} → ((c : Num) → (c ≼ a) ↔ (c ≼ b)) → a ≡ b
+lower-by {a} {b} h = ≼-antisym (h a .0 (≼-refl a)) (h b .1 (≼-refl b))
+
+lower-comm : (x y : Num) → lower x y ≡ lower y x
+lower-comm x y = lower-by (λ c. (to c x y, to c y x))
+  where
+    to : (c x y : Num) → c ≼ lower x y → c ≼ lower y x
+    to c x y k = let h = lower-iff c x y .1 k in lower-iff c y x .0 (h .1, h .0)
+
+lower-turn : (x y z : Num) → lower (lower x y) z ≡ lower x (lower z y)
+lower-turn x y z = lower-by (λ c. (to c, from c))
+  where
+    to : (c : Num) → c ≼ lower (lower x y) z → c ≼ lower x (lower z y)
+    to c k =
+        let h = lower-iff c (lower x y) z .1 k in
+        let l = lower-iff c x y .1 (h .0) in
+        lower-iff c x (lower z y) .0 (l .0, lower-iff c z y .0 (h .1, l .1))
+
+    from : (c : Num) → c ≼ lower x (lower z y) → c ≼ lower (lower x y) z
+    from c k =
+        let h = lower-iff c x (lower z y) .1 k in
+        let l = lower-iff c z y .1 (h .1) in
+        lower-iff c (lower x y) z .0 (lower-iff c x y .0 (h .0, l .1), l .0)
+
+-- no bound changes nothing
+pub meet-free : (q : Cap) → q ≡ meet q free
+unfolding meet
+meet-free free = refl
+meet-free (cap x) = refl
+
+-- the second and the third of three bounds change places
+pub meet-turn : (p q r : Cap) → meet (meet p q) r ≡ meet p (meet r q)
+unfolding meet
+meet-turn free free free = refl
+meet-turn free free (cap z) = refl
+meet-turn free (cap y) free = refl
+meet-turn free (cap y) (cap z) = ap cap (lower-comm y z)
+meet-turn (cap x) free free = refl
+meet-turn (cap x) free (cap z) = refl
+meet-turn (cap x) (cap y) free = refl
+meet-turn (cap x) (cap y) (cap z) = ap cap (lower-turn x y z)
+
+-- −∞ is the smaller of any two bounds
+pub meet-low : (p : Cap) → meet p (cap −∞) ≡ cap −∞
+unfolding meet
+meet-low free = refl
+meet-low (cap x) = ap cap (≼-antisym (lower-iff (lower x −∞) x −∞ .1 (≼-refl (lower x −∞)) .1) low-≼)
 
 meet-iff : (c : Num) (p q : Cap) → (Under c p × Under c q) ↔ Under c (meet p q)
 unfolding meet

@@ -2,24 +2,25 @@
 -- A local of the code holds bits, `ofZ w32 a`; a test reads them back, `toZ w32 (ofZ w32 a)`.
 -- These laws take the facts as the code leaves them.
 use mathlib.Core.Path.{_≡_, refl, sym, _∙_, ap}
-use mathlib.Core.Bool.{Bool, true, false, cond}
+use mathlib.Core.Bool.{Bool, true, false, cond, true≢false}
 use mathlib.Core.Logic.{_≢_, _⊎_, inl, inr}
-use borrow.Author.Tests.{eqb-false, ne-eqb}
+use borrow.Author.Tests.{eqb-false, ne-eqb, ltb-true}
 use Prim.Native.Nat.{ℕ, _≤_, _<_}
 use native.Mathlib.Omega.{arith}
-use lib.Dec.{eqb→eq}
+use lib.Dec.{T, eqb→eq}
 use lib.IntN.{ℤ, pos, negsuc, _+ℤ_, _-ℤ_}
-use lib.Signed.{ltZ, mag}
+use lib.Signed.{ltZ, mag, nonNeg}
 use mir.Syntax.{w32}
 use mir.Val.{SFits, ofZ, toZ}
 use mir.Facts.{toZ-ofZ, ofZ-toZ, sfits-toZ}
 use Rattle.numbers.specs.Integers.{hi, lo, _⊑_}
-use Rattle.numbers.specs.Numbers.{Num, −∞, fin, atMost, _≼_, _⊗_, Within}
+use Rattle.numbers.specs.Numbers.{Num, −∞, fin, IsFin, atMost, _≼_, _⊗_, Within}
 use Rattle.numbers.specs.Words.{mark, isMark, number, word}
 use Rattle.numbers.specs.Weights.{Cap, free, cap, bound, lower, meet, allowed, value, weightOf, isFree, capOf}
 use Rattle.numbers.specs.Places.{Vec}
 use Rattle.numbers.proofs.IntegerLaws.{sum, diff, hi-le, lo-le, ltZ-true, zarith}
 use Rattle.numbers.proofs.NumberLaws.{low-≼, ≼-antisym, tells-atMost}
+use Rattle.numbers.proofs.WeightLaws.{meet-free, meet-low}
 use Rattle.numbers.proofs.Tells.{passes}
 
 -- a word that is the mark
@@ -63,9 +64,21 @@ not-mark {z} f h = go (seen f)
     go (inl m) = absurd (h (ap (λ (x : ℤ). ofZ w32 x) (m .mark)))
     go (inr p) = p
 
+-- a word whose number is not −∞
+pub finite-word : {z : ℤ} → SFits w32 z → IsFin (number z) → Finite z
+finite-word {z} f h = go (seen f)
+  where
+    go : Marked z ⊎ Finite z → Finite z
+    go (inl m) = absurd (rw (m .is) at h)
+    go (inr p) = p
+
 -- what the code reads back from a word's bits is the word
 pub back : {z : ℤ} → mag z < 2147483648 → toZ w32 (ofZ w32 z) ≡ z
 back h = toZ-ofZ (record { sfits = h })
+
+-- a number below 2,147,483,648 as a word
+pub word-is : (x : ℕ) → x < 2147483648 → toZ w32 x ≡ pos x
+word-is x h = toZ-ofZ {w = w32} {z = pos x} (record { sfits = omega arith })
 
 -- the test `a < b` passed
 pub lt-yes : {a b : ℤ} → SFits w32 a → SFits w32 b → ltZ (toZ w32 (ofZ w32 a)) (toZ w32 (ofZ w32 b)) ≡ true → a ⊑ b
@@ -91,6 +104,17 @@ word-number {z} f = go (seen f)
     go : Marked z ⊎ Finite z → word (number z) ≡ z
     go (inl m) = rw (m .is) (sym (m .mark))
     go (inr p) = rw (p .is)
+
+-- ---- the sign of a word
+-- the test `a < 0` failed
+pub not-below : (z : ℤ) → ltZ z (pos 0) ≡ false → T (nonNeg z)
+not-below (pos k) e = tt
+not-below (negsuc k) e = true≢false e
+
+-- a finite word that is below 0 can be negated
+pub negated : (z : ℤ) → lo z < 2147483648 → ltZ z (pos 0) ≡ true → SFits w32 (pos 0 -ℤ z) × T (nonNeg (pos 0 -ℤ z))
+negated (pos k) f e = absurd (omega (arith, ltb-true k 0 e))
+negated (negsuc k) f e = (record { sfits = omega arith }, tt)
 
 -- ---- a sum and a difference of two finite words
 fits-by : (z : ℤ) → hi z ≤ 2000000000 → lo z ≤ 2000000000 → SFits w32 z × Finite z
@@ -163,11 +187,6 @@ lower-r x y h = go (atMost x y) refl
     go true e = ≼-antisym (tells-atMost x y .yes e) h
     go false e = refl
 
-meet-free : (q : Cap) → q ≡ meet q free
-unfolding meet
-meet-free free = refl
-meet-free (cap x) = refl
-
 -- the new bound y is the smaller one, or the old one stays
 meet-new : (m : ℤ) (y : Num) → Bounds m → (capOf m ≡ cap (number m) → y ≼ number m) → cap y ≡ meet (capOf m) (cap y)
 unfolding meet
@@ -225,6 +244,13 @@ module _ (m x g : ℤ) (f : SFits w32 m) (p : Finite x) (q : Finite g)
       some-of : Bounds m → capOf m ≡ cap (number m)
       some-of (none e c) = absurd (omega (arith, ap hi e, ap lo e, near .0))
       some-of (some b c) = c
+
+-- a bound of −∞ leaves no weight but −∞, whatever the others allow
+pub weigh-low : (z : ℤ) (p : Cap) (d : ℕ) (g x : Vec) → Marked z → meet p (capOf z) ≡ allowed d g x
+    → number z ≡ weightOf d g x
+unfolding weightOf capOf number
+weigh-low z p d g x k h =
+    k .is ∙ ap value (sym (meet-low p) ∙ ap (λ (y : ℤ). meet p (capOf y)) (sym (k .mark)) ∙ h)
 
 -- the weight that a bound's word leaves, by the test `m == FREE` on its bits
 module _ (m d : ℕ) (g x : Vec) (is : capOf (toZ w32 m) ≡ allowed d g x) where

@@ -1,7 +1,7 @@
 -- Vectors by place, the numbers of a list of words, and what the vector functions make of them.
 use mathlib.Core.List.{List, _++_, _∷_, []}
 use mathlib.Core.Path.{_≡_}
-use Prim.Native.Nat.{ℕ, _<_}
+use Prim.Native.Nat.{ℕ, _≤_, _<_}
 use lib.IntN.{ℤ, pos}
 use lib.ListN.{length, getD}
 use Rattle.numbers.specs.Numbers.{Num, _⊗_, _⊕_, ⨁, Within}
@@ -27,6 +27,12 @@ sideOf d a x = ⨁ d (λ j. a j ⊗ x j)
 pub record Mixed (before : List ℤ) (s : Num) (h : List ℤ) (t : Num) (after : List ℤ) : Type 0 where
   pub long : length after ≡ length before
   pub right : (j : ℕ) → j < length before → entries after j ≡ (s ⊗ entries before j) ⊕ (t ⊗ entries h j)
+
+-- from place `from` on `after` has the larger of `before` and h weighted by t; the places before are as they were
+pub record Lifted (from : ℕ) (before h : List ℤ) (t : Num) (after : List ℤ) : Type 0 where
+  pub long : length after ≡ length before
+  pub right : (j : ℕ) → from ≤ j → j < length before → entries after j ≡ entries before j ⊕ (t ⊗ entries h j)
+  pub rest : (j : ℕ) → j < from → getD after j (pos 0) ≡ getD before j (pos 0)
 
 -- seven words: the clocks, the last word behind them, and 0 behind that
 pub record Ended (clocks : List ℤ) (last : ℤ) (words : List ℤ) : Type 0 where

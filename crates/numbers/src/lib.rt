@@ -3,9 +3,9 @@ ghost use mathlib.Core.Path.{_≡_};
 ghost use Prim.Native.Nat.{_≤_};
 ghost use lib.IntN.{pos};
 ghost use lib.ListN.{length};
-ghost use Rattle.numbers.specs.Numbers.{_⊕_, _⊗_, Within};
+ghost use Rattle.numbers.specs.Numbers.{_⊕_, _⊗_, IsFin, Within};
 ghost use Rattle.numbers.specs.Words.{number, mark};
-ghost use Rattle.numbers.specs.Places.{entries, Each, sideOf, Mixed, Ended};
+ghost use Rattle.numbers.specs.Places.{entries, Each, sideOf, Mixed, Lifted, Ended};
 ghost use Rattle.numbers.specs.Weights.{bound, meet, weightOf, capOf};
 ghost use Rattle.numbers.specs.Refusals.{refusalNumber};
 
@@ -127,32 +127,34 @@ pub fn side(a: &[i32], x: &[i32]) -> i32
 // The bound of a weight that nothing bounds.
 const FREE: i32 = 2147483647;
 
-// The smaller of the bound m and x − g; x − (−∞) sets no bound.
+// The smaller of the bound m and x − g, where neither x nor g is −∞.
 fn under(m: i32, x: i32, g: i32) -> i32
+    requires { ⌜ IsFin (number x) × IsFin (number g) ⌝ }
     requires { ⌜ Within 1000000000 (number x) × Within 1000000000 (number g) ⌝ }
     ensures { λ r. ⌜ capOf r ≡ meet (capOf m) (bound (number x) (number g)) ⌝ }
 {
-    if g == Vector::MARK {
-        return m;
-    }
-    if x == Vector::MARK {
-        return x;
-    }
     let d = x - g;
     if d < m { d } else { m }
 }
 
-// The largest weight at which g stays below x.
+// The largest weight at which g stays below x; x − (−∞) sets no bound, and −∞ − g leaves no weight but −∞.
 pub fn weight(g: &[i32], x: &[i32]) -> i32
     requires { ⌜ (length (now g) ≡ length (now x)) × Each 1000000000 (now g) × Each 1000000000 (now x) ⌝ }
     ensures { λ r. ⌜ number r
         ≡ weightOf (length (now (x .entry))) (entries (now (g .entry))) (entries (now (x .entry))) ⌝ }
 {
     let mut m = FREE;
-    let mut j = 0;
-    while j < x.len() {
-        m = under(m, x[j], g[j]);
-        j += 1;
+    let mut j = x.len(); // from the last entry, which tells a point from a ray
+    while 0 < j {
+        j -= 1;
+        let h = g[j];
+        if h != Vector::MARK {
+            let y = x[j];
+            if y == Vector::MARK {
+                return y;
+            }
+            m = under(m, y, h);
+        }
     }
     if m == FREE { Vector::MARK } else { m }
 }
@@ -168,6 +170,23 @@ pub fn mix(out: &mut [i32], s: i32, h: &[i32], t: i32)
     while j < out.len() {
         let old = out[j];
         out[j] = larger(product(s, old), product(t, h[j]));
+        j += 1;
+    }
+}
+
+// The vector in `out` becomes, from entry `from` on, the larger of itself and h weighted by t.
+pub fn lift(out: &mut [i32], from: usize, h: &[i32], t: i32)
+    requires { ⌜ (length (now h) ≡ length (now out)) × (from ≤ length (now out)) ⌝ }
+    requires { ⌜ Each 1000000000 (now h) × Within 1000000000 (number t) ⌝ }
+    ensures { λ _. ⌜ Lifted from (now (out .entry)) (now (h .entry)) (number t) (now (out .exit)) ⌝ }
+{
+    let mut j = from;
+    while j != out.len() {
+        let g = h[j];
+        if g != Vector::MARK {
+            let old = out[j];
+            out[j] = larger(old, product(t, g));
+        }
         j += 1;
     }
 }

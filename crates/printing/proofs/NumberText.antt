@@ -1,7 +1,7 @@
 -- Laws of a number's digits.
 use mathlib.Core.List.{List, [], _∷_, _++_}
 use mathlib.Core.Path.{_≡_, sym, ap, subst, _∙_}
-use Prim.Native.Nat.{ℕ, zero, suc, _+_, _*_, _/_, _%_, _≤_, _<_}
+use Prim.Native.Nat.{ℕ, zero, suc, _*_, _/_, _%_, _≤_, _<_}
 use native.Mathlib.Decide.{decLt}
 use native.Mathlib.Omega.{arith}
 use borrow.Author.Tests.{lt-ltb, le-ltb}
@@ -38,6 +38,7 @@ pub one-digit : (n : ℕ) → n < 10 → decimal n ≡ digit n ∷ []
 unfolding decimal
 one-digit n h = last-digit n n h
 
+-- a number of 10 or more is the text of its tenth and a digit
 pub more-digits : (n : ℕ) → 10 ≤ n → decimal n ≡ decimal (n / 10) ++ (digit (n % 10) ∷ [])
 unfolding decimal
 more-digits n h =
@@ -48,9 +49,11 @@ more-digits n h =
 -- ---- a number that is written
 module _ {a : List ℕ} {at : ℕ} (v : ℕ) where
   module _ (h : v < 10) where
+    -- room for a number is room for one byte
     pub one-room : {x : ℕ} → Room at (decimal v) a → Room at (x ∷ []) a
     one-room r = any-byte (subst (λ (ds : List ℕ). Room at ds a) (one-digit v h) r)
 
+    -- a number below 10 is written by its digit
     pub one-wrote : {b : List ℕ} {end : ℕ} → Writes a at (digit v ∷ []) b end → Writes a at (decimal v) b end
     one-wrote {b} {end} w = subst (λ (ds : List ℕ). Writes a at ds b end) (sym (one-digit v h)) w
 
@@ -58,13 +61,16 @@ module _ {a : List ℕ} {at : ℕ} (v : ℕ) where
     whole : Room at (decimal v) a → Room at (decimal (v / 10) ++ (digit (v % 10) ∷ [])) a
     whole r = subst (λ (ds : List ℕ). Room at ds a) (more-digits v h) r
 
+    -- room for a number is room for its tenth
     pub tenth-room : Room at (decimal v) a → Room at (decimal (v / 10)) a
     tenth-room r = room-first (decimal (v / 10)) (digit (v % 10) ∷ []) (whole r)
 
     module _ {b : List ℕ} {m : ℕ} (w : Writes a at (decimal (v / 10)) b m) where
+      -- and behind it for the last digit
       pub last-room : {x : ℕ} → Room at (decimal v) a → Room m (x ∷ []) b
       last-room r = any-byte (room-next (decimal (v / 10)) (digit (v % 10) ∷ []) w (whole r))
 
+      -- the tenth and the last digit are the number
       pub last-wrote : {d : List ℕ} {end : ℕ} → Writes b m (digit (v % 10) ∷ []) d end → Writes a at (decimal v) d end
       last-wrote {d} {end} u = subst (λ (ds : List ℕ). Writes a at ds d end) (sym (more-digits v h)) (wrote-then w u)
 
@@ -83,6 +89,7 @@ tenfold b k o h n l = by (decLt n 10)
           h (n / 10) (omega arith),
         )
 
+-- how many digits a number has at most
 pub below-10 : (n : ℕ) → n < 10 → length (decimal n) ≤ 1
 below-10 n l = omega (arith, ap length (one-digit n l))
 

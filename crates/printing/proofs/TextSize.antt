@@ -23,6 +23,7 @@ counts-long kept tried h k =
       spaced-long tried 4 (below-10000 tried (omega arith)),
     )
 
+-- a first line has at most 19 bytes
 pub head-long : (a : Answer) → AnswerLimits a → length (headOf a) ≤ 19
 head-long (reached edges kept tried) (h, k, t) =
     omega (
@@ -42,6 +43,7 @@ head-long (open-to depth kept tried) (h, k, t) =
 head-long (refused number) h =
     omega (arith, length-append (spaced number) newline, spaced-long number 1 (below-10 number (omega arith)))
 
+-- a line of the path has at most 6
 pub line-long : (s : Stop) → StopLimits s → length (lineOf s) ≤ 6
 unfolding lineOf
 line-long s h =
@@ -69,6 +71,7 @@ below-long stops (never kept tried) h = omega arith
 below-long stops (open-to depth kept tried) h = omega arith
 below-long stops (refused number) h = omega arith
 
+-- a text has at most 397
 pub text-long : (stops : List Stop) (a : Answer) → length stops ≤ 63 → All StopLimits stops → AnswerLimits a
     → length (textOf stops a) ≤ 397
 unfolding textOf

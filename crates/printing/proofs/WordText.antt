@@ -1,4 +1,4 @@
--- A byte and a word.
+-- A byte and a word, written.
 use mathlib.Core.List.{List, [], _∷_}
 use mathlib.Core.Path.{sym, _∙_}
 use Prim.Native.Nat.{ℕ, _≤_}

@@ -8,23 +8,15 @@ use lib.Dec.{leb, ltb, lt→ltb}
 use lib.IntN.{ℤ, pos}
 use lib.ListN.{length, drop}
 use Rattle.numbers.specs.Words.{number}
-use Rattle.numbers.specs.declared.Refusal.{Refusal}
-use Rattle.numbers.specs.declared.Refusal.the-variants.{Shape, Entry, Arg, Range, Gens, Room, Bytes, Model}
-use Rattle.numbers.proofs.Tells.{Tells, passes, tells-leb, tells-eqb, clash}
-use Rattle.algebra.specs.Vectors.{Vector, count, vectors, words}
-use Rattle.algebra.specs.Sets.{setOf, Included}
+use Rattle.numbers.specs.declared.Refusal.the-variants.{Range, Gens}
+use Rattle.numbers.proofs.Tells.{passes, tells-leb, tells-eqb}
+use Rattle.algebra.specs.Vectors.{Vector, vectors, words}
 use Rattle.algebra.specs.Wanted.{left, right}
 use Rattle.algebra.specs.Working.{intersectList, delayList, resetList}
 use Rattle.sets.specs.Limits.{Clocks, Whole}
 use Rattle.sets.specs.declared.Checked.the-variants.{Good}
-use Rattle.sets.specs.declared.Told.{Told}
-use Rattle.sets.specs.declared.Told.the-variants.{Yes, No, Refused as ToldRefused}
-use Rattle.sets.specs.Answers.{Asks, saidBy}
-use Rattle.sets.specs.Calls.{includedInput}
-use Rattle.sets.specs.Demands.{Good as GoodInput, asking}
-use Rattle.sets.specs.Rules.{includedOf}
+use Rattle.sets.specs.Demands.{Good as GoodInput}
 use Rattle.sets.proofs.TestLaws.{tells-clocks, tells-whole, tells-words, tells-list}
-use Rattle.sets.proofs.Asking.{included-meets}
 use Rattle.making.specs.declared.Made.the-variants.{Vectors, Refused}
 use Rattle.making.specs.Limits.{Roomy}
 use Rattle.making.specs.Calls.{intersectInput, delayInput, resetInput}
@@ -34,7 +26,7 @@ use Rattle.making.specs.Rules.{intersectChecked, intersectOf, delayChecked, del
 use Rattle.making.proofs.Existence.{canonical-made}
 use Rattle.runs.specs.Models.{Bound, BoundLimits}
 use Rattle.runs.specs.Table.{halfOf}
-use Rattle.runs.specs.Rule.{Step, made, stop, fitted, cut, delayed, resetTo0, included, isYes}
+use Rattle.runs.specs.Rule.{made, stop, fitted, cut, delayed, resetTo0}
 use Rattle.runs.specs.Shown.{shown}
 use Rattle.runs.proofs.TableLaws.{half-long, half-limits}
 use Rattle.runs.proofs.ProperLists.{Proper, words-count}
@@ -115,9 +107,11 @@ module _ (n : ℕ) (clocks : Clocks n) (l area : List ℤ) (p : Proper n l) (roo
   pub cut-good : (b : Bound) → BoundLimits n b → GoodInput (intersectInput n l (halfOf n b) area)
   cut-good b h = ((clocks, p .whole, half-long n b h, roomy), (p .limits, half-limits n b h), tt)
 
+  -- a proper list is good input of `delay`
   pub delayed-good : GoodInput (delayInput n l area)
   delayed-good = ((clocks, p .whole, roomy), p .limits, tt)
 
+  -- and of `reset` of a clock to 0
   pub reset-good : (i : ℕ) → i < n → GoodInput (resetInput n l i (pos 0) area)
   unfolding number
   reset-good i h = (
@@ -128,25 +122,3 @@ module _ (n : ℕ) (clocks : Clocks n) (l area : List ℤ) (p : Proper n l) (roo
       value = record { low = record { le = omega arith }; high = record { le = omega arith } };
     },
   )
-
--- two proper lists: the call is not refused, and the test tells inclusion
-pub included-tells : (n : ℕ) → Clocks n → (inner outer : List ℤ) → Proper n inner → Proper n outer
-    → Tells (included n inner outer) (Included (setOf n inner) (setOf n outer))
-unfolding included
-included-tells n c inner outer p q = by (includedOf n inner outer) (included-meets n inner outer)
-  where
-    met : (e : Refusal) → asking (includedInput n inner outer) e
-    met Shape = (c, p .whole, q .whole)
-    met Entry = (p .limits, q .limits)
-    met Arg = tt
-    met Range = tt
-    met Gens = tt
-    met Room = tt
-    met Bytes = tt
-    met Model = tt
-
-    by : (a : Told) → Asks (includedInput n inner outer) (Included (setOf n inner) (setOf n outer)) (saidBy a)
-        → Tells (isYes a) (Included (setOf n inner) (setOf n outer))
-    by Yes h = record { yes = λ e. h .1; no = λ e. absurd (clash e) }
-    by No h = record { yes = λ e. absurd (clash (sym e)); no = λ e. h .1 }
-    by (ToldRefused e) h = absurd (h .broken (met (h .why)))

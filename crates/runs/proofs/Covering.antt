@@ -52,6 +52,7 @@ module _ (S : System) (m : ℕ) (location : ℕ → ℕ) (list : ℕ → List �
   Done i e = (v : Values) → Entered S (edge S e .destination) (Crossed S (edge S e) (Has (S .clocks) (list i))) v
       → Within (suc (deep i)) (edge S e .destination) v
 
+  -- the lists cover the runs with at most D edges, and none of them meets the target
   pub record Covers (D : ℕ) : Type 0 where
     pub base : (v : Values) → Entered S (S .initial) (AtZero S) v → Within 0 (S .initial) v
     pub candidates : (i e : ℕ) → i < m → deep i < D → e < length (S .edges) → edge S e .source ≡ location i → Done i e

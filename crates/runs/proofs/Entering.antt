@@ -101,6 +101,7 @@ pub record Yields (n : ℕ) (t : List ℤ) (P : Values → Type 0) : Type 0 wher
   pub exact : (v : Values) → Has n t v ↔ P v
 
 module _ (n : ℕ) where
+  -- a list of bounds leaves the values that they all hold at
   pub cuts-yield : (bs : List Bound) → All (BoundLimits n) bs → (l t : List ℤ) → Proper n l → cutAll n bs l ≡ made t
       → Yields n t (λ v. Has n l v × AllHold n bs v)
   unfolding cutAll
@@ -155,6 +156,7 @@ module _ (n : ℕ) where
       let (x, a, b) = then-made (cutAll n inv l) (delayed n) y f in
       cuts-yield inv h y t (delayed-gives n x (cuts-yield inv h l x p a .proper) y b .proper) g .proper
 
+  -- following an edge makes a proper list
   pub following-proper : (e : Edge) → All (BoundLimits n) (e .guard) → Rising 0 n (e .resets) → (inv : List Bound)
       → All (BoundLimits n) inv → (l t : List ℤ) → Proper n l → following n e inv l ≡ made t → Proper n t
   unfolding following
@@ -174,10 +176,12 @@ module _ (S : System) (limits : SystemLimits S) where
   abbrev n : ℕ
   n = S .clocks
 
+  -- an invariant's bounds are in limits
   pub invariant-limits : (q : ℕ) → All (BoundLimits n) (invariant S q)
   invariant-limits q =
       all-at (BoundsLimits n) (S .invariants) [] (limits .invariants) (record { few = omega arith; each = tt }) q .each
 
+  -- an edge is in limits
   pub edge-limits : (e : ℕ) → EdgeLimits n (length (S .invariants)) (edge S e)
   edge-limits e = all-at (EdgeLimits n (length (S .invariants))) (S .edges) noEdge (limits .edges) (record {
     source = limits .someLocation;

@@ -33,6 +33,7 @@ or-true : (a b : Bool) → a || b ≡ true → (a ≡ true) ⊎ (b ≡ true)
 or-true true b e = inl refl
 or-true false b e = inr e
 
+-- both of two tests passed
 pub and-true : (a b : Bool) → a && b ≡ true → (a ≡ true) × (b ≡ true)
 and-true true b e = (refl, e)
 and-true false b e = absurd (clash (sym e))
@@ -59,6 +60,7 @@ covered-by n (s ∷ kept) q l e = by (or-true (eqb (s .location) q && included n
 abbrev pub Every : (State → List ℕ → Type 0) → List State → Type 0
 Every Q kept = (i : ℕ) → i < length kept → Q (stateAt kept i) (pathOf kept i)
 
+-- what holds of every kept state and of a new one holds of every state then
 pub every-add : (Q : State → List ℕ → Type 0) (kept : List State) (z : State) → Every Q kept
     → Q z (pathOf (kept ++ (z ∷ [])) (length kept)) → Every Q (kept ++ (z ∷ []))
 every-add Q kept z h q i l = by (decLt i (length kept))
@@ -93,12 +95,15 @@ module _ (S : System) (limits : SystemLimits S) (room : ℕ) where
   abbrev list : List State → ℕ → List ℤ
   list kept i = stateAt kept i .list
 
+  -- how many edges lead to state i
   abbrev deep : List State → ℕ → ℕ
   deep kept i = length (pathOf kept i)
 
+  -- the values are in a state of location q to which at most d edges lead
   abbrev In : List State → ℕ → ℕ → Values → Type 0
   In kept d q v = Within S (length kept) (location kept) (list kept) (deep kept) d q v
 
+  -- the candidates of state i over edge e are covered
   abbrev DoneAt : List State → ℕ → ℕ → Type 0
   DoneAt kept i e = Done S (length kept) (location kept) (list kept) (deep kept) i e
 
@@ -106,6 +111,7 @@ module _ (S : System) (limits : SystemLimits S) (room : ℕ) where
   ClosedAt : List State → ℕ → Type 0
   ClosedAt kept i = (e : ℕ) → e < length (S .edges) → edge S e .source ≡ location kept i → DoneAt kept i e
 
+  -- what is covered stays covered when states are kept behind
   in-more : (kept more : List State) {d q : ℕ} {v : Values} → In kept d q v → In (kept ++ more) d q v
   in-more kept more {v = v} w = record {
     i = w .i;
@@ -115,6 +121,7 @@ module _ (S : System) (limits : SystemLimits S) (room : ℕ) where
     has = subst (λ s. Has n (s .list) v) (sym (at-old kept more (w .i) (w .inside))) (w .has);
   }
 
+  -- so do the candidates over an edge
   done-more : (kept more : List State) (i e : ℕ) → i < length kept → DoneAt kept i e → DoneAt (kept ++ more) i e
   unfolding Done
   done-more kept more i e l d v h =
@@ -123,6 +130,7 @@ module _ (S : System) (limits : SystemLimits S) (room : ℕ) where
       (in-more kept more (d v (subst (λ s. Entered S (edge S e .destination) (Crossed S (edge S e) (Has n (s .list))) v)
       (at-old kept more i l) h)))
 
+  -- and all of them
   closed-more : (kept more : List State) (i : ℕ) → i < length kept → ClosedAt kept i → ClosedAt (kept ++ more) i
   unfolding ClosedAt
   closed-more kept more i l c e a b =
@@ -139,6 +147,7 @@ module _ (S : System) (limits : SystemLimits S) (room : ℕ) where
     last : (i : ℕ) → b ≤ i → i < m → deep kept i ≡ d
     new : (i : ℕ) → m ≤ i → i < length kept → deep kept i ≡ suc d
 
+  -- at most d + 1 edges lead to each state
   inv-short : {b m d : ℕ} (kept : List State) → Inv b m d kept → (i : ℕ) → i < length kept → deep kept i ≤ suc d
   inv-short {b} {m} {d} kept v i l = by (decLt i b) (decLt i m)
     where
@@ -194,6 +203,7 @@ module _ (S : System) (limits : SystemLimits S) (room : ℕ) where
     says : SaysReached S (lastPath (w .kept)) (length (lastPath (w .kept)))
     sound : Every (Sound S) (w .kept)
 
+  -- what is fine is sound
   all-sound : (kept : List State) → Every Fine kept → Every (Sound S) kept
   all-sound kept h i l = record { proper = h i l .proper; runs = h i l .sound }
 
@@ -202,6 +212,7 @@ module _ (S : System) (limits : SystemLimits S) (room : ℕ) where
     is : w′ .kept ≡ w .kept ++ (z ∷ [])
     fine : Fine z (pathOf (w .kept ++ (z ∷ [])) (length (w .kept)))
 
+  -- the path of the state kept last
   last-path : (kept : List State) (z : State) → lastPath (kept ++ (z ∷ [])) ≡ pathOf (kept ++ (z ∷ [])) (length kept)
   unfolding lastPath
   last-path kept z = ap (λ (i : ℕ). pathOf (kept ++ (z ∷ [])) i) (omega (arith, length-append kept (z ∷ [])))
@@ -213,6 +224,7 @@ module _ (S : System) (limits : SystemLimits S) (room : ℕ) where
     abbrev path : List ℕ
     path = pathOf (w .kept ++ (z ∷ [])) (length (w .kept))
 
+    -- the target test of z
     tested-ends : z .location ≡ S .target → (o : Step) → cutAll n (S .goal) (z .list) ≡ o
         → Ends (Added z w) Hit (tested (keeping z w) o)
     tested-ends e (stop f) q = stops
@@ -246,6 +258,7 @@ module _ (S : System) (limits : SystemLimits S) (room : ℕ) where
           sound = every-add (Sound S) (w .kept) z before (record { proper = proper; runs = sound });
         }
 
+    -- keeping z
     keep-ends : Ends (Added z w) Hit (keep S room z w)
     unfolding keep test
     keep-ends = ends-cond (ltb (length (w .kept)) room) (λ r. ends-cond (eqb (z .location) (S .target))
@@ -284,13 +297,16 @@ module _ (S : System) (limits : SystemLimits S) (room : ℕ) where
       y : Yields n l (Entered S (edge S e .destination) (Crossed S (edge S e) (Has n (list kept j))))
       y = candidate-yields S limits e (list kept j) l (v .fine j here .proper) q
 
+      -- z's path is that of state j with edge e behind
       z-path : pathOf (kept ++ (z ∷ [])) (length kept) ≡ pathOf kept j ++ (e ∷ [])
       z-path = path-child kept z j e refl refl
 
+      -- d + 1 edges lead to it
       z-deep : length (pathOf (kept ++ (z ∷ [])) (length kept)) ≡ suc d
       z-deep = ap (λ (p : List ℕ). length p) z-path ∙ (length-append (pathOf kept j) (e ∷ [])
           ∙ omega (arith, v .last j begins ends))
 
+      -- its values are those of runs along that path
       z-sound : (u : Values) → Has n l u
           → Run S (pathOf (kept ++ (z ∷ [])) (length kept)) (edge S e .destination) u
       z-sound u h = subst (λ p. Run S p (edge S e .destination) u) (sym z-path)
@@ -352,6 +368,7 @@ module _ (S : System) (limits : SystemLimits S) (room : ℕ) where
             (at-old kept (z ∷ []) j here) h));
       }
 
+      -- judging z
       judge-ends : Ends (Turned b m d j e w) Hit (judge S room z (trying w))
       unfolding judge
       judge-ends = ends-cond (isEmpty l || covered n kept (edge S e .destination) l)
@@ -367,11 +384,13 @@ module _ (S : System) (limits : SystemLimits S) (room : ℕ) where
             done = λ p. subst (λ k. DoneAt k j e) (sym (a .is)) added;
           }
 
+    -- what is made over the edge is judged, a refusal is passed up
     formed-ends : edge S e .source ≡ location kept j → (o : Step) → candidate S (edge S e) (list kept j) ≡ o
         → Ends (Turned b m d j e w) Hit (formed S room j e (trying w) o)
     formed-ends leaves (made l) q = judge-ends leaves l q
     formed-ends leaves (stop f) q = stops
 
+    -- one edge
     edge-ends : Ends (Turned b m d j e w) Hit (tryEdge S room j e w)
     unfolding tryEdge
     edge-ends = ends-cond (eqb (edge S e .source) (location kept j))
@@ -396,6 +415,7 @@ module _ (S : System) (limits : SystemLimits S) (room : ℕ) where
     done : (k : ℕ) → k < e → edge S k .source ≡ location (w .kept) j → DoneAt (w .kept) j k
 
   module _ (b m d j : ℕ) (begins : b ≤ j) (ends : j < m) where
+    -- one edge more of state j is done
     half-turn : (e : ℕ) (w w′ : Walk) → Half b m d j e w → Turned b m d j e w w′ → Half b m d j (suc e) w′
     half-turn e w w′ h t = record {
       upto = record {
@@ -418,6 +438,7 @@ module _ (S : System) (limits : SystemLimits S) (room : ℕ) where
         by k l (no q) s = subst (λ kept. DoneAt kept j k) (sym (t .is))
             (done-more (w .kept) (t .more) j k inside (h .done k (omega (arith, q)) (s ∙ place)))
 
+    -- one state
     expand-ends : (w : Walk) → Upto b m d j w → Ends (Upto b m d (suc j)) Hit (expand S room j w)
     unfolding expand
     expand-ends w u = ends-map finish (λ w h. h) (ends-turns (λ e w. Half b m d j e w) (length (S .edges)) 0
@@ -439,6 +460,7 @@ module _ (S : System) (limits : SystemLimits S) (room : ℕ) where
   abbrev Stage : ℕ → ℕ → Walk → Type 0
   Stage b d w = Inv b (length (w .kept)) d (w .kept)
 
+  -- one layer
   layer-ends : (b d : ℕ) (w : Walk) → Stage b d w
       → Ends (Upto b (length (w .kept)) d (length (w .kept))) Hit (layer S room b w)
   unfolding layer
@@ -462,6 +484,7 @@ module _ (S : System) (limits : SystemLimits S) (room : ℕ) where
         by (yes p) = u .inv .old i p
         by (no p) = u .closed i (omega (arith, p)) l
 
+    -- the next layer begins
     next-stage : Stage m (suc d) w
     next-stage = record {
       begins = u .inv .inside;
@@ -489,13 +512,16 @@ module _ (S : System) (limits : SystemLimits S) (room : ℕ) where
   Says depth (ends-open w) = SaysOpen S depth
   Says depth (ends-refused e) = Unit {0}
 
+  -- the ending says what is true of runs, and every kept state is sound
   record Right (depth : ℕ) (r : Ending) : Type 0 where
     says : Says depth r
     sound : Every (Sound S) (keptBy r)
 
+  -- no state is kept
   nothing-sound : Every (Sound S) []
   nothing-sound i l = absurd (omega arith)
 
+  -- after a layer
   after-right : (depth b d m : ℕ) (next : Walk → Ending) (o : Outcome) → Ends (Upto b m d m) Hit o
       → ((w : Walk) → Stage m (suc d) w → Right depth (next w)) → Right depth (after m next o)
   after-right depth b d m next (going w) (goes u) f = cond-case (Right depth) (eqb (length (w .kept)) m)
@@ -507,6 +533,7 @@ module _ (S : System) (limits : SystemLimits S) (room : ℕ) where
   after-right depth b d m next (met w) (meets h) f = record { says = h .says; sound = h .sound }
   after-right depth b d m next (stopped e) stops f = record { says = tt; sound = nothing-sound }
 
+  -- layer after layer
   layers-right : (depth more b d : ℕ) (w : Walk) → depth ≡ d + more → Stage b d w
       → Right depth (layers S room more b w)
   unfolding layers
@@ -518,9 +545,11 @@ module _ (S : System) (limits : SystemLimits S) (room : ℕ) where
 
   -- ---- state 0
   module _ (l : List ℤ) (q : enter S (S .initial) (zeros n) ≡ made l) where
+    -- what state 0 has
     first : Yields n l (Entered S (S .initial) (Has n (zeros n)))
     first = enter-yields S limits (S .initial) (zeros n) l (zeros-proper n) q
 
+    -- the values of state 0 are those that are entered with all clocks 0
     first-has : (v : Values) → Entered S (S .initial) (AtZero S) v → Has n l v
     first-has v h = first .exact v .1 (record {
       u = h .u;
@@ -539,9 +568,11 @@ module _ (S : System) (limits : SystemLimits S) (room : ℕ) where
       target = λ i a. absurd (omega arith);
     }) k (omega arith)
 
+    -- no edge leads to it
     first-path : pathOf (zeroth S l ∷ []) 0 ≡ []
     first-path = path-new [] (zeroth S l)
 
+    -- its values are those of runs without an edge
     first-sound : (v : Values) → Has n l v → Run S (pathOf (zeroth S l ∷ []) 0) (S .initial) v
     first-sound v h = subst (λ p. Run S p (S .initial) v) (sym first-path)
         (enter-run S limits (S .initial) [] (Has n (zeros n)) (λ u a. values-long n (zeros n) u a) begins v
@@ -555,6 +586,7 @@ module _ (S : System) (limits : SystemLimits S) (room : ℕ) where
     first-short : length (pathOf (zeroth S l ∷ []) 0) ≡ 0
     first-short = ap (λ (p : List ℕ). length p) first-path
 
+    -- layer 0 is state 0
     first-stage : (w : Walk) → Added (zeroth S l) nothing w → Stage 0 0 w
     first-stage w a = subst (λ kept. Inv 0 (length kept) 0 kept) (sym (a .is)) (record {
       begins = omega arith;
@@ -573,12 +605,14 @@ module _ (S : System) (limits : SystemLimits S) (room : ℕ) where
       new = λ i m k. absurd (omega arith);
     })
 
+  -- after state 0
   begun-right : (depth : ℕ) (next : Walk → Ending) (o : Outcome) → Ends (Stage 0 0) Hit o
       → ((w : Walk) → Stage 0 0 w → Right depth (next w)) → Right depth (begun next o)
   begun-right depth next (going w) (goes h) f = f w h
   begun-right depth next (met w) (meets h) f = record { says = h .says; sound = h .sound }
   begun-right depth next (stopped e) stops f = record { says = tt; sound = nothing-sound }
 
+  -- after entering
   from-right : (depth : ℕ) (next : Walk → Ending) (o : Step) → enter S (S .initial) (zeros n) ≡ o
       → ((w : Walk) → Stage 0 0 w → Right depth (next w)) → Right depth (from S room next o)
   from-right depth next (made l) q f = cond-case (Right depth) (isEmpty l)
@@ -588,11 +622,13 @@ module _ (S : System) (limits : SystemLimits S) (room : ℕ) where
       (first-sound l q) (λ k r. absurd (omega (arith, first-short l q))))) f)
   from-right depth next (stop e) q f = record { says = tt; sound = nothing-sound }
 
+  -- the whole walk
   walk-right : (depth : ℕ) → Right depth (walkTo S room depth)
   unfolding walkTo
   walk-right depth = from-right depth (layers S room depth 0) (enter S (S .initial) (zeros n)) refl
       (λ w v. layers-right depth depth 0 0 w (omega arith) v)
 
+  -- what an ending says is what its answer means
   right-means : (depth : ℕ) (r : Ending) → Says depth r → Means S (lastPath (keptBy r)) (answerOf depth r)
   unfolding answerOf
   right-means depth (ends-reached w) h = h

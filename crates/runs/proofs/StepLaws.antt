@@ -107,6 +107,7 @@ numbers-inj u v e = sym (back u) ∙ (ap (map whole) e ∙ back v)
     back [] = refl
     back (k ∷ v) = ap (λ v. k ∷ v) (back v)
 
+-- a delay of values is a shift of their numbers
 pub later-numbers : (δ : ℕ) (v : Values) → map (λ z. pos δ ▷ z) (numbers v) ≡ numbers (later δ v)
 later-numbers δ [] = refl
 later-numbers δ (k ∷ v) = ap (λ x. fin (pos (δ + k)) ∷ x) (later-numbers δ v)

@@ -165,10 +165,11 @@ inTurn f (suc n) i w = onward (f i w) (inTurn f n (suc i))
 abbrev pub nothing : Walk
 nothing = record { kept = []; tried = 0 }
 
--- one state more is kept; one candidate more was formed
+-- one state more is kept
 abbrev pub keeping : State → Walk → Walk
 keeping s w = record { kept = w .kept ++ (s ∷ []); tried = w .tried }
 
+-- one candidate more was formed
 abbrev pub trying : Walk → Walk
 trying w = record { kept = w .kept; tried = suc (w .tried) }
 

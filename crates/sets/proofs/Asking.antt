@@ -4,7 +4,6 @@ use mathlib.Core.List.{List, map}
 use mathlib.Core.Path.{_≡_, refl, sym, ap, subst}
 use Prim.Native.Nat.{ℕ, _<_}
 use native.Mathlib.Omega.{arith}
-use native.Mathlib.Decide.{decLt}
 use lib.Dec.{eqb}
 use lib.IntN.{ℤ}
 use lib.ListN.{length}
@@ -33,12 +32,10 @@ use Rattle.sets.proofs.Membership.{tells-inside, tells-included}
 
 -- the first demand that is not met has one number
 pub one-refusal : (demand : Demands) (k l : ℕ) → Refuses demand k → Refuses demand l → k ≡ l
-one-refusal demand k l p q = go (decLt k l) (decLt l k)
-  where
-    go : Dec (k < l) → Dec (l < k) → k ≡ l
-    go (yes h) d = absurd (p .broken (q .before (p .why) (subst (λ (n : ℕ). n < l) (p .number) h)))
-    go (no h) (yes m) = absurd (q .broken (p .before (q .why) (subst (λ (n : ℕ). n < k) (q .number) m)))
-    go (no h) (no m) = omega arith
+one-refusal demand k l p q =
+    let no-less : ¬ (k < l) = λ h. p .broken (q .before (p .why) (subst (λ (n : ℕ). n < l) (p .number) h)) in
+    let no-more : ¬ (l < k) = λ h. q .broken (p .before (q .why) (subst (λ (n : ℕ). n < k) (q .number) h)) in
+    omega (arith, no-less, no-more)
 
 -- ---- the contract settles the answer
 all-met : (c : Input) → GoodInput c → (e : Refusal) → asking c e

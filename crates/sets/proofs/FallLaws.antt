@@ -1,11 +1,14 @@
 -- What is reached, vector by vector, and where a vector falls short of it.
-use mathlib.Core.Bool.{Bool, true, false, cond}
+use mathlib.Core.Bool.{Bool, true, false}
 use mathlib.Core.List.{List}
 use mathlib.Core.Path.{_≡_, refl, sym, _∙_, ap, subst}
 use Prim.Native.Nat.{ℕ, _+_, _*_, _/_, _≤_, _<_}
-use native.Mathlib.Nat.{mul-le-mul-right, div-mul-le-self}
+use native.Mathlib.Nat.{div-mul-le-self}
 use native.Mathlib.Numerals.{add-one}
+use native.Mathlib.Decide.{decLt}
 use native.Mathlib.Omega.{arith}
+use borrow.Author.Tests.{eq-eqb, ne-eqb}
+use lib.Dec.{eqb}
 use lib.IntN.{ℤ, pos}
 use lib.ListN.{length, getD, take, replicate, getD-replicate}
 use lib.Seq.{getD-take, getD-drop, length-take-le}
@@ -14,21 +17,22 @@ use mir.Syntax.{w32}
 use mir.Val.{SFits, toZ, ofZ}
 use Rattle.numbers.specs.Words.{mark, number}
 use Rattle.numbers.proofs.WordLaws.{number-mark, back, lt-no, number-mono, number-strict}
-use Rattle.numbers.specs.Numbers.{Num, −∞, _≼_, atMost, _⊕_, _⊗_, Within, nought}
+use Rattle.numbers.specs.Numbers.{Num, −∞, _≼_, atMost, _⊕_, _⊗_, Within}
 use Rattle.numbers.specs.Tests.{every}
 use Rattle.numbers.proofs.Tells.{passes, fails, tells-every, every-stop}
-use Rattle.numbers.specs.Places.{Vec, entries, Each, Mixed}
+use Rattle.numbers.specs.Places.{Vec, entries, Each, Lifted}
 use Rattle.numbers.specs.Weights.{weightOf}
-use Rattle.numbers.proofs.NumberLaws.{▷-zero, ⊗-low, ⊕-low, wider, tells-atMost}
+use Rattle.numbers.proofs.NumberLaws.{≼-trans, ⊗-low, ⊕-low, wider, tells-atMost}
 use Rattle.numbers.proofs.WeightLaws.{weight-ext}
 use Rattle.algebra.specs.Vectors.{count}
 use Rattle.algebra.specs.Reach.{reach}
-use Rattle.algebra.proofs.Residuation.{reach-none, reach-more, reach-ext, reach-within}
+use Rattle.algebra.proofs.Residuation.{reach-none, reach-more, reach-grows, reach-ext}
 use Rattle.sets.specs.declared.Short.{Short}
 use Rattle.sets.specs.declared.Short.the-variants.{Nowhere, At}
 use Rattle.sets.specs.Tests.{part}
 use Rattle.sets.specs.Rules.{flat, attained, generated}
-use Rattle.sets.specs.Falls.{masked, allUsed, Falls, reachOf, Testable, Gathered, Raised}
+use Rattle.sets.specs.Falls.{masked, allUsed, Falls, reachOf, Testable, Next, Gathered, Ends, Raisable}
+use Rattle.sets.specs.Falls.{raised, Raised}
 use Rattle.sets.proofs.RowLaws.{row-ends, part-long}
 use Rattle.sets.proofs.FlatLaws.{part-flat}
 
@@ -57,96 +61,152 @@ each-part {k} l a w h e = record { each = λ j b. at j (subst (λ (n : ℕ). j <
     at : (j : ℕ) → j < w → Within k (entries (part l a w) j)
     at j b = rw (getD-take, getD-drop) (e .each (a + j) (omega arith))
 
--- mixing in a vector with weight 0 on the left is raising
-pub raised : (before g x after : List ℤ) (t : Num) → length before ≡ length x
-    → t ≡ weightOf (length x) (entries g) (entries x) → Mixed before nought g t after → Raised before g x after
-raised before g x after t e q m = record {
-  long = m .long;
-  right = λ j l. m .right j (omega arith) ∙ rw (▷-zero (entries before j), q);
-}
+-- ---- what is reached, raised by one vector
+module _ (from : ℕ) (before g x : List ℤ) (t : Num) (w : t ≡ weightOf (length x) (entries g) (entries x)) where
+  -- a vector of weight −∞ raises nothing
+  pub raised-none : from ≤ length x → t ≡ −∞ → Raised from before g x from before
+  raised-none h e = record {
+    long = refl;
+    onward = omega arith;
+    inside = h;
+    passed = λ j f l. absurd (omega arith);
+    right = λ j f l. unfold raised in rw (← w, e, ⊕-low (entries before j));
+  }
 
--- what can be tested against m vectors can be tested against fewer
-pub testable-fewer : (list : List ℤ) (m k : ℕ) (used : List Bool) (x : List ℤ) → k ≤ m → Testable list m used x
-    → Testable list k used x
-testable-fewer list m k used x h t = record {
-  few = t .few;
-  whole = omega (arith, mul-le-mul-right (length x) h, t .whole);
-  flags = omega (arith, t .flags);
-  ofList = t .ofList;
-  ofX = t .ofX;
-}
+  -- lifting by its weight raises, and the entries passed are reached
+  pub raised-lift : (r : ℕ) (after : List ℤ) → length before ≡ length x → Lifted from before g t after
+      → Next from after x r → Raised from before g x r after
+  raised-lift r after e m n = record {
+    long = m .long;
+    onward = n .onward;
+    inside = n .inside;
+    passed = λ j f l. subst (λ z. entries x j ≼ z) (lifts j f (omega (arith, n .inside))) (n .passed j f l);
+    right = λ j f l. lifts j (omega (arith, n .onward)) l;
+  }
+    where
+      lifts : (j : ℕ) → from ≤ j → j < length x → entries after j ≡ raised before g x j
+      lifts j f l = unfold raised in m .right j f (omega arith) ∙ rw w
 
 -- ---- vector by vector
 module _ (list : List ℤ) (used : List Bool) (x : List ℤ) where
+  G : ℕ → Vec
+  G = masked used (flat (length x) list)
+
   -- nothing is reached by no vectors
   pub gathered-none : (out : List ℤ) → length out ≡ length x → ((j : ℕ) → j < length x → entries out j ≡ −∞)
-      → Gathered list used x 0 out
+      → Gathered list used x 0 0 out
   gathered-none out e h = record {
     long = e;
-    right = λ j l. h j l ∙ sym (reach-none (length x) (masked used (flat (length x) list)) (entries x) j);
+    inside = omega arith;
+    passed = λ j l. absurd (omega arith);
+    right = λ j f l. unfold G in h j l ∙ sym (reach-none (length x) G (entries x) j);
   }
 
-  -- a vector that is not used changes nothing
-  pub gathered-skip : (i : ℕ) (out : List ℤ) → getD used i false ≡ false → Gathered list used x i out
-      → Gathered list used x (i + 1) out
-  gathered-skip i out e g = record {
+  -- what is reached stays reached
+  stays : (i m from : ℕ) (out : List ℤ) → i ≤ m → Gathered list used x i from out
+      → (j : ℕ) → j < from → entries x j ≼ reachOf list m used x j
+  unfolding G
+  stays i m from out h g j l = ≼-trans (g .passed j l) (reach-grows (length x) i m G (entries x) j h)
+
+  -- once all of x is reached, the other vectors need not take part
+  pub ends-early : (i m from : ℕ) (out : List ℤ) → i ≤ m → from ≡ length x → Gathered list used x i from out
+      → Ends list m used x from out
+  ends-early i m from out h e g = record {
     long = g .long;
-    right = λ j l. g .right j l
-        ∙ sym (reach-more (length x) i (masked used (flat (length x) list)) (entries x) j
+    inside = g .inside;
+    passed = stays i m from out h g;
+    short = λ l. absurd (omega arith);
+    reached = λ l. absurd (omega arith);
+  }
+
+  -- all vectors took part: the next entry that is short ends it
+  pub ends-next : (i m from r : ℕ) (out : List ℤ) → i ≡ m → Gathered list used x i from out → Next from out x r
+      → Ends list m used x r out
+  ends-next i m from r out e g n = subst (λ (k : ℕ). Ends list k used x r out) e (record {
+    long = g .long;
+    inside = n .inside;
+    passed = λ j l. before j l (decLt j from);
+    short = λ l k. n .short l (subst (λ y. entries x r ≼ y) (sym (g .right r (n .onward) l)) k);
+    reached = λ l. g .right r (n .onward) l;
+  })
+    where
+      before : (j : ℕ) → j < r → Dec (j < from) → entries x j ≼ reachOf list i used x j
+      before j l (yes k) = g .passed j k
+      before j l (no k) = subst (λ z. entries x j ≼ z) (g .right j (omega arith) (omega (arith, n .inside)))
+          (n .passed j (omega arith) l)
+
+  -- a vector that is not used changes nothing
+  pub gathered-skip : (i from : ℕ) (out : List ℤ) → getD used i false ≡ false → Gathered list used x i from out
+      → Gathered list used x (i + 1) from out
+  gathered-skip i from out e g = record {
+    long = g .long;
+    inside = g .inside;
+    passed = stays i (i + 1) from out (omega arith) g;
+    right = λ j f l. unfold G in g .right j f l
+        ∙ sym (reach-more (length x) i G (entries x) j
         ∙ ap (λ z. reachOf list i used x j ⊕ z) (none j) ∙ ⊕-low (reachOf list i used x j));
   }
     where
-      off : (j : ℕ) → masked used (flat (length x) list) i j ≡ −∞
-      off j = unfold masked in rw e
+      off : (j : ℕ) → G i j ≡ −∞
+      off j = unfold G masked in rw e
 
-      none : (j : ℕ) → weightOf (length x) (masked used (flat (length x) list) i) (entries x)
-          ⊗ masked used (flat (length x) list) i j ≡ −∞
-      none j = rw (off j) (⊗-low (weightOf (length x) (masked used (flat (length x) list) i) (entries x)))
+      none : (j : ℕ) → weightOf (length x) (G i) (entries x) ⊗ G i j ≡ −∞
+      none j = rw (off j) (⊗-low (weightOf (length x) (G i) (entries x)))
+
+  -- what the first i vectors reach can be raised by the next
+  pub gathered-raisable : (m i from : ℕ) (out : List ℤ) → Testable list m used x → i < m
+      → Gathered list used x i from out
+      → Raisable from out (part list (i * length x) (length x)) x
+  gathered-raisable m i from out t h g =
+      let e = row-ends i m (length x) (length list) h (t .whole) in
+      record {
+        long = g .long;
+        inside = g .inside;
+        same = part-long list (i * length x) (length x) e;
+        ofG = each-part list (i * length x) (length x) e (t .ofList);
+        ofX = t .ofX;
+      }
 
   -- a vector that is used raises what is reached
-  pub gathered-next : (i : ℕ) (out after : List ℤ) → getD used i false ≡ true → Gathered list used x i out
-      → Raised out (part list (i * length x) (length x)) x after → Gathered list used x (i + 1) after
-  gathered-next i out after e g r = record {
-    long = r .long ∙ g .long;
-    right = λ j l. r .right j l ∙ step j l ∙ sym (reach-more (length x) i G (entries x) j);
+  pub gathered-next : (i from r : ℕ) (out after : List ℤ) → getD used i false ≡ true
+      → Gathered list used x i from out → Raised from out (part list (i * length x) (length x)) x r after
+      → Gathered list used x (i + 1) r after
+  gathered-next i from r out after e g h = record {
+    long = h .long ∙ g .long;
+    inside = h .inside;
+    passed = λ j l. before j l (decLt j from);
+    right = λ j f l. h .right j f l ∙ step j (omega (arith, h .onward)) l;
   }
     where
-      G : ℕ → Vec
-      G = masked used (flat (length x) list)
-
       v : List ℤ
       v = part list (i * length x) (length x)
 
       same : (j : ℕ) → j < length x → entries v j ≡ G i j
-      same j l = unfold masked in part-flat (length x) list i j l ∙ rw e
+      same j l = unfold G masked in part-flat (length x) list i j l ∙ rw e
 
-      step : (j : ℕ) → j < length x
-          → entries out j ⊕ (weightOf (length x) (entries v) (entries x) ⊗ entries v j)
-          ≡ reachOf list i used x j ⊕ (weightOf (length x) (G i) (entries x) ⊗ G i j)
-      step j l = rw (
-        g .right j l,
+      step : (j : ℕ) → from ≤ j → j < length x → raised out v x j ≡ reachOf list (i + 1) used x j
+      step j f l = unfold G raised in rw (
+        g .right j f l,
         same j l,
         weight-ext (length x) (entries v) (G i) (entries x) (entries x) same (λ k h. refl),
-      )
+      ) (sym (reach-more (length x) i G (entries x) j))
 
-  -- what is reached stays within limits
-  pub gathered-each : (m i : ℕ) (out : List ℤ) → Testable list m used x → i ≤ m → Gathered list used x i out
-      → Each 1000000000 out
-  gathered-each m i out t h g = record {
-    each = λ j l. let b : j < length x = omega (arith, g .long) in
-        wider (omega arith) (subst (λ z. Within 300000000 z) (sym (g .right j b)) (near j b));
-  }
-    where
-      masked-near : (k j : ℕ) → k < i → j < length x → (b : Bool)
-          → Within 100000000 (cond b (flat (length x) list k j) −∞)
-      masked-near k j l b true = unfold flat in
-          let e = row-ends k m (length x) (length list) (omega arith) (t .whole) in
-          t .ofList .each (k * length x + j) (omega (arith, e))
-      masked-near k j l b false = record { near = tt }
+      before : (j : ℕ) → j < r → Dec (j < from) → entries x j ≼ reachOf list (i + 1) used x j
+      before j l (yes k) = stays i (i + 1) from out (omega arith) g j k
+      before j l (no k) =
+          subst (λ z. entries x j ≼ z) (step j (omega arith) (omega (arith, h .inside))) (h .passed j (omega arith) l)
 
-      near : (j : ℕ) → j < length x → Within 300000000 (reachOf list i used x j)
-      near = unfold masked in reach-within (length x) i (masked used (flat (length x) list)) (entries x)
-          (λ k j l b. masked-near k j l b (getD used k false)) (λ j l. t .ofX .each j l)
+  -- ---- where x falls short of what all reach
+  module _ (m r : ℕ) (out : List ℤ) (h : Ends list m used x r out) where
+    -- nowhere, if all entries are passed
+    pub falls-nowhere : r ≡ length x → Falls (length x) (reachOf list m used x) (entries x) Nowhere
+    falls-nowhere e = λ j l. h .passed j (omega arith)
+
+    -- otherwise at the entry that is not
+    pub falls-at : (z : ℤ) → r < length x → number z ≡ entries out r
+        → Falls (length x) (reachOf list m used x) (entries x) (At r z)
+    falls-at z l e =
+        record { inside = l; short = h .short l; reached = e ∙ h .reached l; before = λ k b. h .passed k b }
 
 -- ---- the words r and x of one place, by the test `r < x` on bits
 module _ (r x : ℤ) (fr : mag r < 2147483648) (fx : mag x < 2147483648) where
@@ -167,7 +227,7 @@ blank-long z w h = length-take-le w (replicate 7 z) h
 
 -- seven marks, of which as many are lent as x has words: nothing is reached yet
 pub gathered-blank : (list : List ℤ) (used : List Bool) (x : List ℤ) → length x ≤ 7
-    → Gathered list used x 0 (take (length x) (replicate 7 mark))
+    → Gathered list used x 0 0 (take (length x) (replicate 7 mark))
 gathered-blank list used x h = gathered-none list used x (take (length x) (replicate 7 mark))
     (blank-long mark (length x) h)
     (λ j l. ap number (getD-take (length x) (replicate 7 mark) j (pos 0) l
@@ -199,6 +259,22 @@ short-generated list m x s h f = tells-falls (length x) _ (entries x) s (falls-e
     same : (j : ℕ) → j < length x → reachOf list m allUsed x j ≡ reach (length x) m (flat (length x) list) (entries x) j
     same = reach-ext (length x) m (masked allUsed (flat (length x) list)) (flat (length x) list) (entries x) (entries x)
         (λ i j l b. all-on (flat (length x) list) i j (omega arith)) (λ j b. refl)
+
+-- all of it is passed exactly if it is a combination
+pub ends-generated : (list : List ℤ) (m r : ℕ) (x out : List ℤ) → m ≤ 32 → Ends list m allUsed x r out
+    → eqb r (length x) ≡ generated list m x
+ends-generated list m r x out h e = go (decLt r (length x))
+  where
+    go : Dec (r < length x) → eqb r (length x) ≡ generated list m x
+    go (yes l) = ne-eqb r (length x) (omega arith)
+        ∙ sym (short-generated list m x (At r (getD out r (pos 0))) h (falls-at list allUsed x m r out e _ l refl))
+    go (no l) = let q : r ≡ length x = omega (arith, e .inside) in
+        eq-eqb r (length x) q ∙ sym (short-generated list m x Nowhere h (falls-nowhere list allUsed x m r out e q))
+
+-- each of up to 32 vectors is used
+pub used-all : (i : ℕ) → i < 32 → getD allUsed i false ≡ true
+unfolding allUsed
+used-all i h = getD-replicate 32 i true false h
 
 -- a vector of n + 1 words can be tested against all vectors of a list of at most 32
 pub testable-all : (n : ℕ) (l x : List ℤ) → n ≤ 6 → count n l ≤ 32 → length x ≡ n + 1

@@ -28,8 +28,8 @@ pieces-at (suc k) w (suc i) v l =
     place : w + i * w ≡ suc i * w
     place = add-comm w (i * w) ∙ sym (suc-mul i w)
 
--- within a list, what stands for a missing word does not matter
-in-range : (l : List ℤ) (k : ℕ) (d e : ℤ) → k < length l → getD l k d ≡ getD l k e
+-- within a list, what stands for a missing item does not matter
+pub in-range : {A : Type 0} (l : List A) (k : ℕ) (d e : A) → k < length l → getD l k d ≡ getD l k e
 in-range [] k d e h = absurd (omega arith)
 in-range (x ∷ l) zero d e h = refl
 in-range (x ∷ l) (suc k) d e h = in-range l k d e (omega arith)

@@ -1,7 +1,6 @@
 -- The contract of the test of a vector against a list settles its answer.
 use mathlib.Core.Path.{_≡_, refl, sym, _∙_, ap}
 use Prim.Native.Nat.{ℕ, _<_}
-use native.Mathlib.Decide.{decLt}
 use native.Mathlib.Omega.{arith}
 use mir.Syntax.{w32}
 use mir.Val.{SFits}
@@ -9,7 +8,7 @@ use Rattle.numbers.specs.Places.{Vec}
 use Rattle.numbers.proofs.Settled.{word-settled}
 use Rattle.sets.specs.declared.Short.{Short}
 use Rattle.sets.specs.declared.Short.the-variants.{Nowhere, At}
-use Rattle.sets.specs.Falls.{Falls, FallsAt}
+use Rattle.sets.specs.Falls.{Falls}
 
 -- the value in an answer is a word
 abbrev pub Worded : Short → Type 0
@@ -24,10 +23,11 @@ falls-settled d R X (At j z) Nowhere f g p q = absurd (p .short (q j (p .inside)
 falls-settled d R X (At j z) (At k y) f g p q =
     ap (λ i. At i z) place ∙ ap (At k) (word-settled f g (p .reached) (q .reached ∙ ap R (sym place)))
   where
-    by : Dec (j < k) → Dec (k < j) → j ≡ k
-    by (yes h) e = absurd (p .short (q .before j h))
-    by (no h) (yes e) = absurd (q .short (p .before k e))
-    by (no h) (no e) = omega arith
+    no-less : ¬ (j < k)
+    no-less h = p .short (q .before j h)
+
+    no-more : ¬ (k < j)
+    no-more h = q .short (p .before k h)
 
     place : j ≡ k
-    place = by (decLt j k) (decLt k j)
+    place = omega (arith, no-less, no-more)

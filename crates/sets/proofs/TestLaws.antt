@@ -151,6 +151,7 @@ tells-list n l = tells-every (λ i. vectorOk n (part l (i * suc n) (suc n)))
     (λ j b. part-flat (suc n) l i j b ∙ sym (family-flat n l i j h b)))
 
 -- ---- what limits say of the words
+-- a number between −1,000,000 and 1,000,000 is within 1,000,000
 between-within : {x : Num} → Between minusMillion million x → Within 1000000 x
 between-within {x = −∞} h = record { near = tt }
 between-within {x = fin z} h = let l = h .low in let u = h .high in
@@ -159,6 +160,7 @@ between-within {x = fin z} h = let l = h .low in let u = h .high in
 tight-within : {x : Num} → Between nought million x → Within 1000000 x
 tight-within h = between-within (record { low = ≼-trans (record { le = omega arith }) (h .low); high = h .high })
 
+-- so is one that may be −∞
 pub loose-within : {x : Num} → Loose x → Within 1000000 x
 loose-within (inl e) = rw e (record { near = tt })
 loose-within (inr h) = between-within h

@@ -11,7 +11,7 @@ use Rattle.sets.specs.Limits.{Clocks, Whole, ListLimits, TestedLimits}
 use Rattle.sets.specs.Demands.{Input}
 use Rattle.sets.specs.Answers.{saidBy, Asks}
 
--- ---- contains: is the point p in the set of l?
+-- ---- contains: whether the point p is in the set of l
 -- what it demands of its input
 abbrev pub containsInput : ℕ → List ℤ → List ℤ → Input
 containsInput n l p = record {
@@ -24,7 +24,7 @@ containsInput n l p = record {
 abbrev pub Contains : ℕ → List ℤ → List ℤ → Told → Type 0
 Contains n l p answer = Asks (containsInput n l p) (setOf n l (map number p)) (saidBy answer)
 
--- ---- included: is the set of `inner` included in that of `outer`?
+-- ---- included: whether the set of `inner` is included in that of `outer`
 -- what it demands of its input
 abbrev pub includedInput : ℕ → List ℤ → List ℤ → Input
 includedInput n inner outer = record {

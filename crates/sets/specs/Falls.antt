@@ -47,24 +47,48 @@ pub record Testable (list : List ℤ) (m : ℕ) (used : List Bool) (x : List ℤ
   pub ofList : Each 100000000 list
   pub ofX : Each 100000000 x
 
--- `out` holds what the first i vectors reach
-pub record Gathered (list : List ℤ) (used : List Bool) (x : List ℤ) (i : ℕ) (out : List ℤ) : Type 0 where
-  pub long : length out ≡ length x
-  pub right : (j : ℕ) → j < length x → entries out j ≡ reachOf list i used x j
+-- r is the first entry of x from `from` on that is above `reached`, or the number of entries
+pub record Next (from : ℕ) (reached x : List ℤ) (r : ℕ) : Type 0 where
+  pub onward : from ≤ r
+  pub inside : r ≤ length x
+  pub passed : (j : ℕ) → from ≤ j → j < r → entries x j ≼ entries reached j
+  pub short : r < length x → ¬ (entries x r ≼ entries reached r)
 
--- `before` can be raised by g
-pub record Raisable (before g x : List ℤ) : Type 0 where
+-- the first i vectors reach x before entry `from`, and from there on `out` holds what they reach
+pub record Gathered (list : List ℤ) (used : List Bool) (x : List ℤ) (i from : ℕ) (out : List ℤ) : Type 0 where
+  pub long : length out ≡ length x
+  pub inside : from ≤ length x
+  pub passed : (j : ℕ) → j < from → entries x j ≼ reachOf list i used x j
+  pub right : (j : ℕ) → from ≤ j → j < length x → entries out j ≡ reachOf list i used x j
+
+-- r is the first entry of x that the first m vectors do not reach, with what they reach there in `out`; or the number of
+-- entries
+pub record Ends (list : List ℤ) (m : ℕ) (used : List Bool) (x : List ℤ) (r : ℕ) (out : List ℤ) : Type 0 where
+  pub long : length out ≡ length x
+  pub inside : r ≤ length x
+  pub passed : (j : ℕ) → j < r → entries x j ≼ reachOf list m used x j
+  pub short : r < length x → ¬ (entries x r ≼ reachOf list m used x r)
+  pub reached : r < length x → entries out r ≡ reachOf list m used x r
+
+-- `before` can be raised by g from entry `from` on
+pub record Raisable (from : ℕ) (before g x : List ℤ) : Type 0 where
   pub long : length before ≡ length x
+  pub inside : from ≤ length x
   pub same : length g ≡ length x
-  pub ofBefore : Each 1000000000 before
   pub ofG : Each 100000000 g
   pub ofX : Each 100000000 x
 
--- `after` is what g at its largest weight below x makes of `before`
-pub record Raised (before g x after : List ℤ) : Type 0 where
+-- what g at its largest weight below x makes of `before`
+unfoldable pub raised : List ℤ → List ℤ → List ℤ → Vec
+raised before g x j = entries before j ⊕ (weightOf (length x) (entries g) (entries x) ⊗ entries g j)
+
+-- that reaches x from entry `from` to entry r, and from there on it is `after`
+pub record Raised (from : ℕ) (before g x : List ℤ) (r : ℕ) (after : List ℤ) : Type 0 where
   pub long : length after ≡ length before
-  pub right : (j : ℕ) → j < length x
-      → entries after j ≡ entries before j ⊕ (weightOf (length x) (entries g) (entries x) ⊗ entries g j)
+  pub onward : from ≤ r
+  pub inside : r ≤ length x
+  pub passed : (j : ℕ) → from ≤ j → j < r → entries x j ≼ raised before g x j
+  pub right : (j : ℕ) → r ≤ j → j < length x → entries after j ≡ raised before g x j
 
 -- the vectors of one list can be tested against another
 pub record Coverable (n : ℕ) (inner outer : List ℤ) : Type 0 where

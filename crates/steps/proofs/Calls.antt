@@ -31,13 +31,15 @@ module _ (n k : ℕ) (work : List ℤ) (h : Working n k work) where
   abbrev p : Proper n l
   p = h .kept .proper
 
-  -- the lists that the steps make are proper
+  -- the lists that a cut makes are proper
   pub cut-sound : (half : List ℤ) → Sound n (cut n half (front n k work))
   cut-sound half t e = cut-gives n l p half t e .proper
 
+  -- those that a delay makes
   pub delayed-sound : Sound n (delayed n (front n k work))
   delayed-sound t e = delayed-gives n l p t e .proper
 
+  -- those that a reset makes
   pub reset-sound : (i : ℕ) → i < n → Sound n (resetTo0 n i (front n k work))
   reset-sound i m t e = reset-gives n l p i m t e .proper
 
@@ -50,6 +52,7 @@ module _ (n k : ℕ) (work : List ℤ) (h : Working n k work) where
     abbrev roomy : Roomy n area
     roomy = memory-roomy n area memory
 
+    -- what `intersect` answers is the cut by the bound
     pub cut-called : (b : Bound) → BoundLimits n b → (half : List ℤ) → Halves n (halfOf n b) half
         → Intersects n (take (k * (n + 1)) work) (take (2 * (n + 1)) half) area answer after
         → Stepped n (cut n (halfOf n b) (front n k work)) answer after
@@ -63,6 +66,7 @@ module _ (n k : ℕ) (work : List ℤ) (h : Working n k work) where
         stepped-shown n (cut n (halfOf n b) l) area memory (cut-sound (halfOf n b)) (same e f
         ∙ cut-call n l (halfOf n b) area (cut-good n (memory .clocks) l area p roomy b fit))
 
+    -- what `delay` answers is the delay
     pub delayed-called : Delays n (take (k * (n + 1)) work) area answer after
         → Stepped n (delayed n (front n k work)) answer after
     delayed-called calls =
@@ -73,6 +77,7 @@ module _ (n k : ℕ) (work : List ℤ) (h : Working n k work) where
         stepped-shown n (delayed n l) area memory delayed-sound
         (same e f ∙ delayed-call n l area (delayed-good n (memory .clocks) l area p roomy))
 
+    -- what `reset` answers is the reset
     pub reset-called : (i : ℕ) → i < n → Resets n (take (k * (n + 1)) work) i (pos 0) area answer after
         → Stepped n (resetTo0 n i (front n k work)) answer after
     reset-called i m calls =

@@ -33,9 +33,11 @@ pub words-as : (n k : ℕ) → k * (n + 1) ≡ k * suc n
 words-as n k = ap (λ (w : ℕ). k * w) (add-one n)
 
 module _ (n k : ℕ) (work : List ℤ) (memory : Memory n work) (few : k ≤ 32) where
+  -- the list has at most 224 words
   pub front-small : k * (n + 1) ≤ 224
   front-small = subst (λ (w : ℕ). w ≤ 224) (sym (words-as n k)) (words-few n k (memory .clocks .few) few)
 
+  -- it lies in working memory
   pub front-inside : k * (n + 1) ≤ length work
   front-inside = let h = front-small in omega (arith, memory .room)
 
@@ -148,6 +150,7 @@ module _ {n : ℕ} {list : List ℤ} {k : ℕ} {work : List ℤ} (b : Begun n li
   told : stepBy n answer after ≡ f list
   told = h .told ∙ ap f (b .stands)
 
+  -- what is shown is the step of the list that was begun with
   pub shown-begun : (out : List ℤ) {r : Made} {written : List ℤ} → Shows n (stepBy n answer after) out r written
       → Shows n (f list) out r written
   shown-begun out {r} {written} e = subst (λ (s : Step). Shows n s out r written) told e
@@ -156,12 +159,15 @@ module _ {n : ℕ} {list : List ℤ} {k : ℕ} {work : List ℤ} (b : Begun n li
   met : (a : Made) → answer ≡ a → meetsBy (stepBy n a after) ≡ meetsBy (f list)
   met a e = ap (λ (a : Made). meetsBy (stepBy n a after)) (sym e) ∙ ap meetsBy told
 
+  -- the target test: the step is refused
   pub met-refused : {e : Refusal} → answer ≡ Refused e → ToldRefused e ≡ meetsBy (f list)
   met-refused {e} q = met (Refused e) q
 
+  -- nothing is left
   pub met-none : {m : ℕ} → answer ≡ Vectors m → m ≡ 0 → No ≡ meetsBy (f list)
   met-none {m} q e = ap (λ (w : ℕ). meetsBy (made (take w after))) (sym (zero-mul (suc n))) ∙ met (Vectors 0) (q ∙ ap Vectors e)
 
+  -- something is left
   pub met-some : {m : ℕ} → answer ≡ Vectors m → (m ≡ 0 → ⊥) → Yes ≡ meetsBy (f list)
   met-some {m} q e = full (front n m after) (omega (arith, front-long n m after (h .memory) (kept .few), words)) ∙ met (Vectors m) q
     where

@@ -67,6 +67,7 @@ pub entering-as : (n : ℕ) (inv : List RuleBound) (l : List ℤ)
 unfolding entering
 entering-as n inv l = then-in (cutAll n inv l) (delayed n) (cutAll n inv)
 
+-- following an edge, one step behind the other
 pub following-as : (n : ℕ) (e : Edge) (inv : List RuleBound) (l : List ℤ)
     → cutAll n (e .guard) l then (λ l. resetAll n (e .resets) l then entering n inv) ≡ following n e inv l
 unfolding following
@@ -79,6 +80,7 @@ pub going-turn : {n k : ℕ} {work : List ℤ} {left : List ℤ → Step} {whole
 going-turn g s e = sym e ∙ g .same
 
 module _ (n count : ℕ) (items : List Bound) (long : count ≤ length items) (i : ℕ) where
+  -- the bounds from i on: that of i, and then the rest
   pub cut-turn : (past : Bound) → i < count → (l : List ℤ) → cutItems n (drop i (take count items)) l
       ≡ cut n (halfOf n (boundBy n (getD items i past) (getD items i past .kind))) l
       then cutItems n (drop (i + 1) (take count items))
@@ -87,6 +89,7 @@ module _ (n count : ℕ) (items : List Bound) (long : count ≤ length items) (i
       let few : i < length (take count items) = omega (arith, length-take-le count items long) in
       rw (add-one i, drop-cons (take count items) i past few, getD-take count items i past h)
 
+  -- no bound is left
   pub cut-none : count ≤ i → (l : List ℤ) → cutItems n (drop i (take count items)) l ≡ made l
   unfolding cutAll
   cut-none h l =
@@ -102,6 +105,7 @@ reset-start n bits {k} {work} h = record {
 }
 
 module _ (n i bits : ℕ) where
+  -- the clocks from i on: i if its bit is set, and then the rest
   pub reset-turn : i < n → (l : List ℤ) → resetAll n (clocksOf (n - i) i bits) l
       ≡ resetBy n (bits % 2) i l then resetAll n (clocksOf (n - (i + 1)) (i + 1) (bits / 2))
   unfolding resetAll resetBy
@@ -116,16 +120,19 @@ module _ (n i bits : ℕ) where
       by true = refl
       by false = refl
 
+  -- no clock is left
   pub reset-none : n ≤ i → (l : List ℤ) → resetAll n (clocksOf (n - i) i bits) l ≡ made l
   unfolding resetAll
   reset-none h l = let e : n - i ≡ 0 = omega arith in rw e
 
 -- ---- clock i by its bit
 module _ (n bit i k : ℕ) (work : List ℤ) where
+  -- a clock whose bit is not set stays
   pub reset-off : Working n k work → ¬ (bit ≡ 1) → Stepped n (resetBy n bit i (front n k work)) (Vectors k) work
   unfolding resetBy
   reset-off h e = record { memory = h .memory; kept = h .kept; told = rw (ne-eqb bit 1 e) }
 
+  -- one whose bit is set is reset
   pub reset-on : bit ≡ 1 → {answer : Made} {after : List ℤ} → Stepped n (resetTo0 n i (front n k work)) answer after
       → Stepped n (resetBy n bit i (front n k work)) answer after
   unfolding resetBy

@@ -1,7 +1,7 @@
 -- The table of the code makes the half-spaces of the rule's table.
 use mathlib.Core.List.{List, [], _∷_, _++_, map, append-nil}
 use mathlib.Core.Path.{_≡_, refl, sym, _∙_, ap, subst}
-use Prim.Native.Nat.{ℕ, zero, suc, _+_, _*_, _≤_, _<_}
+use Prim.Native.Nat.{ℕ, zero, suc, _*_, _≤_, _<_}
 use native.Mathlib.Numerals.{add-one}
 use native.Mathlib.Omega.{arith}
 use lib.IntN.{ℤ, pos}
@@ -27,6 +27,7 @@ abbrev pub rows : List Row
 rows = record { nought = Ax; constant = D } ∷ record { nought = Cx; constant = B }
     ∷ record { nought = Ax; constant = Cy } ∷ record { nought = Cx; constant = Ay } ∷ []
 
+-- what stands behind the last row
 abbrev pub pastRow : Row
 pastRow = record { nought = Ax; constant = Ax }
 
@@ -80,6 +81,7 @@ module _ (n x y : ℕ) (k : ℤ) (few : n ≤ 6) (h : x < n) (l : y < n) where
 
 -- ---- by a kind
 module _ (n : ℕ) (bound : Bound) {half : List ℤ} where
+  -- the half-space of a bound is that of its kind
   pub half-as : (kind : Kind) → bound .kind ≡ kind → Halves n (halfOf n (boundBy n bound kind)) half
       → Halves n (halfOf n (boundBy n bound (bound .kind))) half
   half-as kind e h = subst (λ (k : Kind). Halves n (halfOf n (boundBy n bound k)) half) (sym e) h
@@ -89,6 +91,7 @@ module _ (n : ℕ) (bound : Bound) {half : List ℤ} where
       → Halves n (halfOf n (boundBy n bound AtMost)) half
   at-most w h = rw (nonneg (bound .k) (w .least)) h
 
+  -- kind 1
   pub at-least : PlainLimits n bound → Halves n (rowWords n (row cx b) (bound .x) (bound .y) (bound .k)) half
       → Halves n (halfOf n (boundBy n bound AtLeast)) half
   at-least w h = rw (nonneg (bound .k) (w .least)) h

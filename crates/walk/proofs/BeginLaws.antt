@@ -1,13 +1,12 @@
 -- State 0: the initial location entered with all clocks 0.
-use mathlib.Core.Bool.{true, false}
-use mathlib.Core.List.{List, [], _∷_, _++_}
+use mathlib.Core.List.{List, []}
 use mathlib.Core.Path.{_≡_, refl, sym, ap, _∙_, subst}
-use Prim.Native.Nat.{ℕ, zero, suc, _+_, _-_, _*_, _≤_, _<_}
+use Prim.Native.Nat.{ℕ, zero, suc, _+_, _-_, _*_, _≤_}
 use native.Mathlib.Nat.{zero-mul, suc-mul}
 use native.Mathlib.Numerals.{add-one}
 use native.Mathlib.Omega.{arith}
 use lib.IntN.{ℤ, pos}
-use lib.ListN.{length, take, drop, getD, replicate, length-replicate, replicate-append-replicate}
+use lib.ListN.{length, take, getD, replicate, length-replicate, replicate-append-replicate}
 use lib.Seq.{take-at, length-take-le}
 use denote.Enum.Declared.{tagOf}
 use Rattle.sets.specs.Limits.{Clocks}
@@ -15,22 +14,22 @@ use Rattle.making.specs.Limits.{Roomy}
 use Rattle.making.specs.declared.Made.{Made}
 use Rattle.making.specs.declared.Made.the-variants.{Vectors, Refused}
 use Rattle.making.proofs.Made.{the-type}
-use Rattle.runs.specs.Models.{System, invariant}
-use Rattle.runs.specs.Rule.{Step, made, stop, isEmpty, zeros, entering, enter, State, nothing, zeroth, keep}
-use Rattle.runs.specs.Rule.{Ending, ends-never, ends-refused, begun, layers, from, walkTo, walkOf}
+use Rattle.runs.specs.Models.{System}
+use Rattle.runs.specs.Rule.{Step, made, stop, zeros, entering, enter, nothing, zeroth, keep}
+use Rattle.runs.specs.Rule.{ends-never, begun, layers, from, walkTo, walkOf}
 use Rattle.runs.specs.Shown.{Shows}
 use Rattle.runs.specs.declared.Verdict.{Verdict}
-use Rattle.runs.specs.declared.Verdict.the-variants.{Never, Refused as VerdictRefused}
+use Rattle.runs.specs.declared.Verdict.the-variants.{Never}
 use Rattle.runs.proofs.ProperLists.{Proper, zeros-proper}
 use Rattle.runs.proofs.Entering.{entering-proper}
 use Rattle.bounds.specs.declared.Bounds.{Bounds}
+use Rattle.bounds.specs.Limits.{BoundsLimits}
 use Rattle.model.specs.declared.Model.{Model}
 use Rattle.model.specs.Limits.{ModelLimits}
 use Rattle.model.specs.Models.{pastBounds}
 use Rattle.model.specs.Plain.{plain, boundsOf}
 use Rattle.model.proofs.PlainLimits.{bounds-plain, invariant-at, invariant-fits}
 use Rattle.steps.specs.Steps.{Starts}
-use Rattle.area.specs.Area.{recordsOf, holding}
 use Rattle.area.specs.Records.{statesIn}
 use Rattle.walk.specs.Control.{tally, Ready, Finds, stoppedBy, endedBy}
 use Rattle.walk.proofs.KeepingLaws.{stays, full-list}
@@ -50,21 +49,20 @@ zeros-part n h =
     ∙ (ap (take (suc n)) (sym (replicate-append-replicate (suc n) (6 - n) (pos 0)))
     ∙ take-at (replicate (suc n) (pos 0)) (replicate (6 - n) (pos 0)) (suc n) (length-replicate (suc n) (pos 0))))
 
+-- the point 0 is a list that entering takes
 pub begin-starts : (n : ℕ) (out : List ℤ) → Clocks n → Roomy n out → Starts n (take (n + 1) (replicate 7 (pos 0))) out
 begin-starts n out c r = record {
   listed = record { clocks = c; proper = subst (Proper n) (sym (zeros-part n (c .few))) (zeros-proper n) };
   roomy = r;
 }
 
-module _ (m : Model) (limits : ModelLimits m) (room : ℕ) where
+module _ (m : Model) (limits : ModelLimits m) (room : ℕ) (inv : Bounds)
+    (known : inv ≡ getD (m .invariants) (m .initial) pastBounds) where
   abbrev n : ℕ
   n = m .clocks
 
   abbrev S : System
   S = plain m .system
-
-  abbrev inv : Bounds
-  inv = getD (m .invariants) (m .initial) pastBounds
 
   clocks : Clocks n
   clocks = record { some = limits .numbers .some-clocks; few = limits .numbers .clocks }
@@ -75,14 +73,17 @@ module _ (m : Model) (limits : ModelLimits m) (room : ℕ) where
 
   same : called ≡ enter S (S .initial) (zeros n)
   same = ap (λ (l : List ℤ). entering n (boundsOf n inv) l) (zeros-part n (clocks .few))
-      ∙ ap (λ bs. entering n bs (zeros n)) (sym (invariant-at m limits pastBounds (m .initial) (limits .numbers .initial)))
+      ∙ ap (λ bs. entering n bs (zeros n)) (ap (boundsOf n) known
+      ∙ sym (invariant-at m limits pastBounds (m .initial) (limits .numbers .initial)))
 
+  -- what entering made is the list of state 0
   pub begin-gave : (before : List ℤ) (answer : Made) (k : ℕ) (after : List ℤ) → Shows n called before answer after
       → answer ≡ Vectors k → Gave n (enter S (S .initial) (zeros n)) k after
   begin-gave before answer k after s q = subst (λ (o : Step). Gave n o k after) same
       (shows-made n called before answer k after
       (λ t e. entering-proper n (boundsOf n inv)
-      (bounds-plain n inv (invariant-fits m limits pastBounds (m .initial) (limits .numbers .initial)) .each)
+      (bounds-plain n inv (subst (BoundsLimits n) (sym known)
+      (invariant-fits m limits pastBounds (m .initial) (limits .numbers .initial))) .each)
       (take (n + 1) (replicate 7 (pos 0))) t (subst (Proper n) (sym (zeros-part n (clocks .few))) (zeros-proper n)) e)
       s q)
 

@@ -1,14 +1,14 @@
 -- Forming a candidate: what the steps made is what the rule goes on with.
-use mathlib.Core.Bool.{Bool, true, false, cond}
-use mathlib.Core.List.{List, [], _∷_, _++_}
+use mathlib.Core.Bool.{cond}
+use mathlib.Core.List.{List}
 use mathlib.Core.Path.{_≡_, refl, sym, ap, _∙_, subst}
 use Prim.Native.Nat.{ℕ, suc, _+_, _-_, _*_, _≤_, _<_}
 use native.Mathlib.Nat.{mul-le-mul-right}
 use native.Mathlib.Numerals.{add-one}
 use native.Mathlib.Omega.{arith}
 use lib.Dec.{eqb}
-use lib.IntN.{ℤ, pos, negsuc}
-use lib.ListN.{length, take, drop, getD}
+use lib.IntN.{ℤ, negsuc}
+use lib.ListN.{length, take, drop}
 use lib.Seq.{take-at}
 use borrow.Author.Tests.{eq-eqb, ne-eqb}
 use denote.Enum.Declared.{tagOf}
@@ -21,9 +21,9 @@ use Rattle.making.specs.declared.Made.{Made}
 use Rattle.making.specs.declared.Made.the-variants.{Vectors, Refused}
 use Rattle.making.specs.Rules.{Result}
 use Rattle.runs.specs.Models.{System, Edge, edge, invariant}
-use Rattle.runs.specs.Rule.{Step, made, stop, State, stateAt, Walk, Outcome, going, met, stopped}
+use Rattle.runs.specs.Rule.{Step, made, stop, State, stateAt, Walk, Outcome, going}
 use Rattle.runs.specs.Rule.{following, trying, nothing, zeroth, test, keep, judge, formed, tryEdge}
-use Rattle.runs.specs.Shown.{shown, Shows}
+use Rattle.runs.specs.Shown.{Shows}
 use Rattle.runs.proofs.ProperLists.{Proper}
 use Rattle.runs.proofs.Entering.{following-proper}
 use Rattle.bounds.specs.Limits.{BoundsLimits}
@@ -39,8 +39,7 @@ use Rattle.area.proofs.KeepLaws.{states-at}
 use Rattle.walk.specs.declared.Tally.{Tally}
 use Rattle.walk.specs.declared.Goal.{Goal}
 use Rattle.walk.specs.declared.Moved.{Moved}
-use Rattle.walk.specs.declared.Moved.the-variants.{Going, Met, Stopped}
-use Rattle.walk.specs.Control.{tally, walkIn, outcomeIn, Does, aimed, stoppedBy, formedTo}
+use Rattle.walk.specs.Control.{tally, walkIn, Does, aimed, stoppedBy, formedTo}
 
 -- ---- what a step's call says of the step
 made-of : {a b : Result} → a ≡ b → a .made ≡ b .made
@@ -64,6 +63,7 @@ pub record Gave (n : ℕ) (o : Step) (k : ℕ) (after : List ℤ) : Type 0 where
   pub few : k ≤ 32
   pub proper : Proper n (take (k * (n + 1)) after)
 
+-- a list that was made is the one that the rule goes on with
 pub shows-made : (n : ℕ) (o : Step) (before : List ℤ) (answer : Made) (k : ℕ) (after : List ℤ)
     → ((t : List ℤ) → o ≡ made t → Proper n t) → Shows n o before answer after → answer ≡ Vectors k → Gave n o k after
 shows-made n (stop e) before answer k after p h q = absurd (apart (sym q ∙ made-of h))
@@ -140,6 +140,7 @@ module _ (m : Model) (room : ℕ) where
   abbrev goal : Goal
   goal = record { location = m .target; list = m .list }
 
+  -- keeping looks at the clocks and the target only
   pub keep-aimed : (s : State) (w : Walk) → keep (aimed (m .clocks) goal) room s w ≡ keep S room s w
   unfolding keep test
   keep-aimed s w = refl

@@ -1,19 +1,16 @@
 -- Keeping and judging a candidate: the answer of code is the outcome of the rule.
 use mathlib.Core.Bool.{Bool, true, false, _||_, cond}
-use mathlib.Core.List.{List, [], _∷_, _++_}
+use mathlib.Core.List.{List, [], _∷_}
 use mathlib.Core.Path.{_≡_, refl, sym, ap, _∙_, subst}
 use Prim.Native.Nat.{ℕ, suc, _+_, _*_, _≤_, _<_}
-use native.Mathlib.Nat.{mul-le-mul-right}
 use native.Mathlib.Numerals.{add-one}
 use native.Mathlib.Omega.{arith}
-use lib.Dec.{eqb, ltb}
+use lib.Dec.{eqb}
 use lib.IntN.{ℤ}
 use lib.ListN.{length, drop}
-use lib.Seq.{drop-drop}
 use borrow.Author.Tests.{lt-ltb, le-ltb, eq-eqb, ne-eqb}
 use Rattle.numbers.specs.declared.Refusal.the-variants.{Room}
-use Rattle.runs.specs.Models.{System}
-use Rattle.runs.specs.Rule.{Step, made, stop, State, isEmpty, covered, cutAll, Walk, Outcome, going, met, stopped}
+use Rattle.runs.specs.Rule.{Step, made, stop, State, isEmpty, covered, cutAll, Walk, Outcome, going, met}
 use Rattle.runs.specs.Rule.{keeping, tested, test, keep, judge}
 use Rattle.model.specs.Plain.{boundsOf}
 use Rattle.steps.specs.Steps.{Listed, meetsBy}
@@ -26,7 +23,7 @@ use Rattle.area.proofs.KeepLaws.{states-new, states-many, recorded-new, kept-be
 use Rattle.walk.specs.declared.Tally.{Tally}
 use Rattle.walk.specs.declared.Goal.{Goal}
 use Rattle.walk.specs.declared.Moved.{Moved}
-use Rattle.walk.specs.declared.Moved.the-variants.{Going, Met, Stopped}
+use Rattle.walk.specs.declared.Moved.the-variants.{Going, Stopped}
 use Rattle.walk.specs.Control.{tally, walkIn, outcomeIn, Ready, Grows, GrowsBy, Does, aimed, metBy, testedBy}
 
 -- ---- nothing is done
@@ -36,12 +33,14 @@ pub stays : (n room : ℕ) (y : Tally) (area : List ℤ) (t : ℕ) → y .tried 
 stays n room y area t h r =
     record { more = omega arith; few = h; within = r .within; recorded = r .recorded; behind = refl }
 
+-- the walk goes on as it is
 pub goes-on : {n room t : ℕ} {y : Tally} {area : List ℤ} {o : Outcome} → y .tried ≤ t → Ready n room y area
     → going (walkIn n y area) ≡ o → Does n room (y .kept) t o area (Going y) area
 goes-on {n} {room} {t} {y} {area} h r e = record { is = e; grows = stays n room y area t h r }
 
 -- ---- the target test
 module _ (n : ℕ) (goal : Goal) (q : ℕ) (parent edge : ℤ) (l : List ℤ) (y : Tally) (area : List ℤ) where
+  -- the test of a kept state is that of the rule
   pub tested-is : outcomeIn n (testedBy n goal q l y) area
       ≡ test (aimed n goal) (state q parent edge l) (walkIn n y area)
   unfolding testedBy test
@@ -60,6 +59,7 @@ module _ (n : ℕ) (goal : Goal) (q : ℕ) (parent edge : ℤ) (l : List ℤ) (y
       by true (made t) = told (isEmpty t)
       by true (stop e) = refl
 
+  -- it keeps no state and forms no candidate
   pub tested-grows : {room k t : ℕ} {before : List ℤ} → Grows n room k t before y area
       → GrowsBy n room k t before (testedBy n goal q l y) area
   unfolding testedBy
@@ -80,6 +80,7 @@ pub tested-meets : (n : ℕ) (goal : Goal) (q : ℕ) (l : List ℤ) (y : Tally) 
 unfolding testedBy
 tested-meets n goal q l y told r h e f = rw (eq-eqb q (goal .location) h, ← e) f
 
+-- a state of another location is not tested
 pub tested-not : (n : ℕ) (goal : Goal) (q : ℕ) (l : List ℤ) (y : Tally) → ¬ (q ≡ goal .location)
     → Going y ≡ testedBy n goal q l y
 unfolding testedBy
@@ -90,6 +91,7 @@ empty-list : (l : List ℤ) → length l ≡ 0 → isEmpty l ≡ true
 empty-list [] h = refl
 empty-list (z ∷ l) h = absurd (omega arith)
 
+-- a list that has a word is not empty
 pub full-list : (l : List ℤ) → ¬ (length l ≡ 0) → isEmpty l ≡ false
 full-list [] h = absurd (h refl)
 full-list (z ∷ l) h = refl
@@ -162,12 +164,14 @@ module _ (n room : ℕ) (y : Tally) (area : List ℤ) (goal : Goal) (q : ℕ) (p
   unfolding judge
   judge-empty h = sym (rw (empty-list l h))
 
+  -- a candidate that a kept state includes is dropped
   pub judge-covered : (r : Bool) → r ≡ covered n (statesIn n k area) q l → r ≡ true
       → going (walkIn n y area) ≡ judge (aimed n goal) room s (walkIn n y area)
   unfolding judge
   judge-covered r e h =
       sym (rw (or-true (isEmpty l) (covered n (statesIn n k area) q l) (sym e ∙ h)))
 
+  -- one that is not empty and not included is kept
   pub judge-kept : (r : Bool) → ¬ (length l ≡ 0) → r ≡ covered n (statesIn n k area) q l → r ≡ false
       → keep (aimed n goal) room s (walkIn n y area) ≡ judge (aimed n goal) room s (walkIn n y area)
   unfolding judge

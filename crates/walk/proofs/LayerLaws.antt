@@ -1,25 +1,21 @@
 -- Layer after layer: the verdict of code is that of the rule's ending.
-use mathlib.Core.Bool.{Bool, true, false, cond}
-use mathlib.Core.List.{List, [], _∷_, _++_}
+use mathlib.Core.List.{List, _++_}
 use mathlib.Core.Path.{_≡_, refl, sym, ap, _∙_, subst}
-use Prim.Native.Nat.{ℕ, zero, suc, _+_, _-_, _*_, _≤_, _<_}
-use native.Mathlib.Nat.{mul-le-mul-right, zero-mul}
+use Prim.Native.Nat.{ℕ, suc, _+_, _-_, _*_, _≤_, _<_}
+use native.Mathlib.Nat.{mul-le-mul-right}
 use native.Mathlib.Numerals.{add-one}
 use native.Mathlib.Omega.{arith}
-use lib.Dec.{eqb}
-use lib.IntN.{ℤ, negsuc}
+use lib.IntN.{ℤ}
 use lib.ListN.{length, drop}
 use borrow.Author.Tests.{eq-eqb, ne-eqb}
-use Rattle.numbers.specs.Refusals.{refusalNumber}
 use Rattle.numbers.specs.declared.Refusal.{Refusal}
 use Rattle.runs.specs.Models.{System}
-use Rattle.runs.specs.Verdicts.{Answer, reached, never, open-to, refused, answerBy}
 use Rattle.runs.specs.declared.Verdict.{Verdict}
 use Rattle.runs.specs.declared.Verdict.the-variants.{Reached, Never, Open, Refused}
-use Rattle.runs.specs.Rule.{State, Walk, Outcome, going, met, stopped, lastPath, nothing, keep, layer, zeroth}
+use Rattle.runs.specs.Rule.{State, Walk, Outcome, going, met, lastPath, nothing, keep, layer, zeroth}
 use Rattle.runs.specs.Rule.{Ending, ends-reached, ends-never, ends-open, ends-refused, answerOf, after, begun, layers}
 use Rattle.runs.proofs.Loops.{Ends, goes, meets, stops}
-use Rattle.runs.proofs.Depths.{Layer, Last, layer-deep, first-deep}
+use Rattle.runs.proofs.Depths.{Layer, layer-deep, first-deep}
 use Rattle.area.specs.Area.{recordSize, recordsOf, holding}
 use Rattle.area.specs.Records.{statesIn}
 use Rattle.area.proofs.KeepLaws.{states-many, holding-is}
@@ -37,6 +33,7 @@ module _ {n room k t : ℕ} {first area : List ℤ} {y : Tally} (g : Grows n roo
     is = holding-is n (y .kept) first area (g .recorded) (g .behind);
   }
 
+  -- REACHED, with the length of the path
   pub finds-reached : {depth d : ℕ} {whole : Ending} → ends-reached (walkIn n y area) ≡ whole
       → length (lastPath (statesIn n (y .kept) area)) ≡ d
       → Finds n k depth whole first (Reached d (y .kept) (y .tried)) area
@@ -45,6 +42,7 @@ module _ {n room k t : ℕ} {first area : List ℤ} {y : Tally} (g : Grows n roo
     left = left;
   })
 
+  -- NEVER
   pub finds-never : {depth : ℕ} {whole : Ending} → ends-never (walkIn n y area) ≡ whole
       → Finds n k depth whole first (Never (y .kept) (y .tried)) area
   finds-never {depth} e = subst (λ w. Finds n k depth w first (Never (y .kept) (y .tried)) area) e (record {
@@ -52,6 +50,7 @@ module _ {n room k t : ℕ} {first area : List ℤ} {y : Tally} (g : Grows n roo
     left = left;
   })
 
+  -- OPEN
   pub finds-open : {depth : ℕ} {whole : Ending} → ends-open (walkIn n y area) ≡ whole
       → Finds n k depth whole first (Open depth (y .kept) (y .tried)) area
   finds-open {depth} e = subst (λ w. Finds n k depth w first (Open depth (y .kept) (y .tried)) area) e (record {
@@ -59,6 +58,7 @@ module _ {n room k t : ℕ} {first area : List ℤ} {y : Tally} (g : Grows n roo
     left = left;
   })
 
+-- a refusal
 pub finds-refused : {n k depth : ℕ} {e : Refusal} {whole : Ending} {first area : List ℤ} → ends-refused e ≡ whole
     → Finds n k depth whole first (Refused e) area
 finds-refused {n} {k} {depth} {e} {whole} {first} {area} q =
@@ -88,6 +88,7 @@ layers-none S room depth d b w h =
     let q : depth - d ≡ 0 = omega arith in
     ap (λ (m : ℕ). layers S room m b w) q ∙ unfold layers in refl
 
+-- all layers are left before the first
 pub layers-first : (S : System) (room depth : ℕ) (w : Walk) → layers S room (depth - 0) 0 w ≡ layers S room depth 0 w
 layers-first S room depth w =
     let q : depth - 0 ≡ depth = omega arith in
@@ -184,9 +185,11 @@ module _ (S : System) (n room depth : ℕ) (l : List ℤ) {before middle : List 
   root-is : {z : Tally} → r ≡ Going z → going (walkIn n z middle) ≡ keep S room (zeroth S l) nothing
   root-is e = ap (λ (r : Moved). outcomeIn n r middle) (sym e) ∙ does .is
 
+  -- state 0 was kept
   pub root-went : {z : Tally} → r ≡ Going z → Grows n room 0 0 before z middle
   root-went e = subst (λ (r : Moved). GrowsBy n room 0 0 before r middle) e (does .grows)
 
+  -- it is layer 0
   pub root-deep : {z : Tally} → r ≡ Going z → Layer 0 0 (statesIn n (z .kept) middle)
   root-deep e = going-deep (first-deep S room l) (root-is e)
 

@@ -1,5 +1,6 @@
 pub mod KeepingLaws
 pub mod FormLaws
+pub mod FollowLaws
 pub mod Turns
 pub mod LayerLaws
 pub mod BeginLaws

@@ -1,13 +1,11 @@
 -- What the walk's contract settles: the verdict and every word, stability at more depth and room, and the counts.
-use mathlib.Core.Bool.{Bool, true, false, cond}
 use mathlib.Core.List.{List}
 use mathlib.Core.Path.{_≡_, refl, sym, ap, _∙_, subst}
 use Prim.Native.Nat.{ℕ, _*_, _≤_, _<_}
 use native.Mathlib.Decide.{decLt}
 use native.Mathlib.Omega.{arith}
-use lib.Dec.{ltb}
 use lib.IntN.{ℤ}
-use lib.ListN.{length}
+use lib.ListN.{length, take}
 use borrow.Author.Tests.{lt-ltb, le-ltb}
 use Rattle.numbers.specs.Refusals.{refusalNumber}
 use Rattle.numbers.specs.declared.Refusal.the-variants.{Shape}
@@ -23,7 +21,7 @@ use Rattle.model.specs.declared.Model.{Model}
 use Rattle.model.specs.Answers.{value, readOf}
 use Rattle.model.specs.Plain.{plain}
 use Rattle.model.proofs.PlainLimits.{edges-many}
-use Rattle.model.proofs.Theorems.{read-written}
+use Rattle.model.proofs.Theorems.{read-written, first-many}
 use Rattle.area.specs.Area.{recordSize, roomOf, areaAfter}
 use Rattle.area.proofs.RecordLaws.{room-one, room-some}
 use Rattle.walk.specs.Walks.{Walked, endingOf, walkedOf, pathIn, keptSaid, withDepth, WalksModel, Walks}
@@ -43,6 +41,7 @@ walk-settled s before v u after last a b =
     let e = a .rule ∙ sym (b .rule) in
     (verdict-settled v u (answers e), areas e)
 
+-- the contract of walking a model settles verdict and area
 pub model-settled : (m : Model) (before : List ℤ) (v u : Verdict) (after last : List ℤ) → WalksModel m before v after
     → WalksModel m before u last → (v ≡ u) × (after ≡ last)
 model-settled m before v u after last a b =
@@ -204,3 +203,9 @@ walk-counts s m bytes read before v after w = by (decLt (length before) (recordS
     by (yes h) = subst Counted (sym (answers (told m before s read v after w ∙ small-walk m before h))) (omega arith)
     by (no h) = subst Counted (sym (ended m before s read v after w (omega (arith, h))))
         (orderly (endingOf m before) (walk-orderly (plain m .system) (roomOf (m .clocks) before) (m .depth)))
+
+-- ---- a long input
+-- the first bytes of an input are walked as all of it
+pub walk-first : (s : List ℕ) (k : ℕ) (before : List ℤ) → 33665 ≤ k
+    → walkedOf (readOf (take k s)) before ≡ walkedOf (readOf s) before
+walk-first s k before h = ap (λ r. walkedOf r before) (first-many s k h)

@@ -1,12 +1,12 @@
 -- The path that the area shows is the rule's path.
 use mathlib.Core.List.{List, [], _∷_, _++_, append-assoc, append-nil}
 use mathlib.Core.Path.{_≡_, refl, sym, ap, _∙_}
-use Prim.Native.Nat.{ℕ, zero, suc, _+_, _-_, _*_, _≤_, _<_}
+use Prim.Native.Nat.{ℕ, zero, suc, _-_, _<_}
 use native.Mathlib.Omega.{arith}
 use lib.IntN.{ℤ, pos, negsuc}
 use lib.ListN.{length}
 use Rattle.runs.specs.Rule.{State, stateAt, edgeOf, pathsOn, pathOf, lastPath}
-use Rattle.runs.proofs.Paths.{Linked, Follows, path-up, path-root}
+use Rattle.runs.proofs.Paths.{Linked, path-up, path-root}
 use Rattle.area.specs.Area.{holding}
 use Rattle.area.proofs.HoldingLaws.{AllWhole, holding-parent, holding-edge}
 use Rattle.walk.specs.Walks.{wordAt, climb, trail, pathIn}

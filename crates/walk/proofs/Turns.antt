@@ -2,7 +2,7 @@
 use mathlib.Core.List.{List}
 use mathlib.Core.Logic.{_⊎_, inl, inr}
 use mathlib.Core.Path.{_≡_, refl, sym, ap, _∙_, subst}
-use Prim.Native.Nat.{ℕ, zero, suc, _+_, _-_, _*_, _≤_, _<_}
+use Prim.Native.Nat.{ℕ, suc, _+_, _-_, _*_, _≤_, _<_}
 use native.Mathlib.Nat.{mul-le-mul-right}
 use native.Mathlib.Numerals.{add-one}
 use native.Mathlib.Omega.{arith}
@@ -11,7 +11,7 @@ use lib.ListN.{length, drop}
 use lib.Seq.{drop-drop}
 use denote.Enum.Declared.{tagOf}
 use Rattle.walk.proofs.Moved.{the-type}
-use Rattle.runs.specs.Rule.{Walk, Outcome, going, met, stopped, onward, inTurn}
+use Rattle.runs.specs.Rule.{Walk, Outcome, going, onward, inTurn}
 use Rattle.area.specs.Area.{recordSize}
 use Rattle.area.specs.Records.{Recorded}
 use Rattle.walk.specs.declared.Tally.{Tally}
@@ -28,6 +28,7 @@ drop-more a b l m h e =
     ∙ (drop-drop (b - a) a m ∙ ap (λ (k : ℕ). drop k m) q)))
 
 module _ {n room k t t′ : ℕ} {first middle last : List ℤ} {y : Tally} (g : Grows n room k t first y middle) where
+  -- what has grown from there has grown from the start
   pub grows-on : {z : Tally} → Grows n room (y .kept) t′ middle z last → Grows n room k t′ first z last
   grows-on {z} h = record {
     more = omega (arith, g .more, h .more);
@@ -38,6 +39,7 @@ module _ {n room k t t′ : ℕ} {first middle last : List ℤ} {y : Tally} (g :
         (mul-le-mul-right (recordSize n) (h .more)) (g .behind);
   }
 
+  -- and what is done from there is done from the start
   pub does-on : {o : Outcome} {r : Moved} → Does n room (y .kept) t′ o middle r last → Does n room k t′ o first r last
   does-on {r = r} d = record { is = d .is; grows = by r (d .grows) }
     where
@@ -98,6 +100,7 @@ turn-none f m i w h =
     let q : m - i ≡ 0 = omega arith in
     ap (λ (k : ℕ). inTurn f k i w) q ∙ unfold inTurn in refl
 
+-- before the first turn all are left
 pub turn-first : (f : ℕ → Walk → Outcome) (m k i : ℕ) (w : Walk) → m - i ≡ k → inTurn f (m - i) i w ≡ inTurn f k i w
 turn-first f m k i w e = ap (λ (k : ℕ). inTurn f k i w) e
 

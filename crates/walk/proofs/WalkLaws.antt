@@ -1,15 +1,13 @@
 -- The contract of the walk, from the rule's ending.
-use mathlib.Core.Bool.{true, false, cond}
-use mathlib.Core.List.{List, [], _∷_, _++_}
+use mathlib.Core.List.{List}
 use mathlib.Core.Logic.{_⊎_, inl, inr}
 use mathlib.Core.Path.{_≡_, refl, sym, ap, _∙_, subst}
-use Prim.Native.Nat.{ℕ, _+_, _*_, _≤_, _<_}
+use Prim.Native.Nat.{ℕ, _≤_, _<_}
 use native.Mathlib.Omega.{arith}
 use lib.IntN.{ℤ, pos}
 use lib.ListN.{length, replicate}
 use borrow.Author.Tests.{lt-ltb, le-ltb}
 use denote.Enum.Declared.{tagOf}
-use Rattle.numbers.specs.Refusals.{refusalNumber}
 use Rattle.numbers.specs.declared.Refusal.{Refusal}
 use Rattle.numbers.specs.declared.Refusal.the-variants.{Shape}
 use Rattle.codec.specs.declared.Step.{Step}
@@ -17,26 +15,28 @@ use Rattle.codec.specs.declared.Step.the-variants.{At, Refused as Stopped}
 use Rattle.codec.proofs.Step.{the-type}
 use Rattle.codec.specs.Answers.{whyStep}
 use Rattle.runs.specs.Models.{System}
-use Rattle.runs.specs.Rule.{State, stateAt, Ending, ends-reached, ends-never, ends-open, ends-refused}
+use Rattle.runs.specs.Rule.{Ending, ends-reached, ends-never, ends-open, ends-refused}
 use Rattle.runs.specs.Rule.{lastPath, keptBy, walkOf, answerOf}
-use Rattle.runs.specs.Verdicts.{Answer, reached, never, open-to, refused, answerBy, SaysReached, Means}
+use Rattle.runs.specs.Verdicts.{answerBy, SaysReached, Means}
 use Rattle.runs.specs.declared.Verdict.{Verdict}
 use Rattle.runs.specs.declared.Verdict.the-variants.{Reached, Never, Open, Refused}
 use Rattle.runs.proofs.Verdict.{the-type as the-verdict}
 use Rattle.runs.proofs.Stable.{Final}
 use Rattle.runs.proofs.Settled.{verdict-settled}
-use Rattle.runs.proofs.Counts.{Orderly, EndsOrderly, walk-orderly}
+use Rattle.runs.proofs.Counts.{EndsOrderly, walk-orderly}
 use Rattle.runs.proofs.Meaning.{walk-means, walk-sound}
 use Rattle.model.specs.declared.Model.{Model}
 use Rattle.model.specs.Limits.{ModelLimits}
-use Rattle.model.specs.Answers.{Said, value, refusal, readOf, readingSaid, ReadsModel}
+use Rattle.model.specs.declared.Outline.{Outline}
+use Rattle.model.specs.Answers.{Said, value, refusal, readOf}
+use Rattle.model.specs.Outlines.{modelBy, outlineSaid, ReadsOutline}
 use Rattle.model.specs.Plain.{plain}
 use Rattle.model.proofs.PlainLimits.{model-plain}
-use Rattle.area.specs.Area.{recordSize, holding, roomOf, areaAfter}
+use Rattle.area.specs.Area.{recordSize, roomOf, areaAfter}
 use Rattle.area.proofs.RecordLaws.{room-cap, room-fits}
 use Rattle.area.proofs.HoldingLaws.{AllWhole}
-use Rattle.walk.specs.Control.{tally, Ready, Left, LeftBy, Finds}
-use Rattle.walk.specs.Walks.{Walked, endingOf, walkedOf, pathIn, keptSaid, WalksModel, Walks}
+use Rattle.walk.specs.Control.{tally, Ready, LeftBy, Finds}
+use Rattle.walk.specs.Walks.{endingOf, walkedOf, pathIn, keptSaid, WalksModel, Walks}
 use Rattle.walk.proofs.Trails.{path-shown}
 
 -- ---- what was read
@@ -46,15 +46,16 @@ value-inj e = cc
 apart : {a : Model} {e : ℕ} → _≡_ {A = Said Model} (value a) (refusal e) → ⊥
 apart q = let z : _≡_ {A = ℕ} 0 1 = cc in omega arith
 
-pub read-value : (s : List ℕ) (step : Step) (m : Model) (end : ℕ) → ReadsModel s step m → step ≡ At end
-    → readOf s ≡ value m
-read-value s step m end r e = sym (r .said) ∙ ap (λ (p : Step). readingSaid p m) e
+-- bytes whose outline was read stand for its model
+pub outline-value : (s : List ℕ) (step : Step) (o : Outline) (end : ℕ) → ReadsOutline s step o → step ≡ At end
+    → readOf s ≡ value (modelBy s o)
+outline-value s step o end r e = sym (r .said) ∙ ap (λ (p : Step). outlineSaid s p o) e
 
 -- the bytes are refused
-pub walks-unread : (s : List ℕ) (step : Step) (m : Model) (before : List ℤ) (e : Refusal) → ReadsModel s step m
+pub walks-unread : (s : List ℕ) (step : Step) (o : Outline) (before : List ℤ) (e : Refusal) → ReadsOutline s step o
     → tagOf the-type step ≡ 1 → e ≡ whyStep step → Walks s before (Refused e) before
-walks-unread s (At end) m before e r z f = absurd (omega (arith, z))
-walks-unread s (Stopped x) m before e r z f = record {
+walks-unread s (At end) o before e r z f = absurd (omega (arith, z))
+walks-unread s (Stopped x) o before e r z f = record {
   rule = unfold walkedOf in rw (← r .said, f);
   means = λ n q. absurd (apart (sym q ∙ sym (r .said)));
 }
@@ -96,6 +97,7 @@ module _ (m : Model) (limits : ModelLimits m) where
     recorded = λ i l. absurd (omega arith);
   }
 
+  -- what is found in that room is what the area's ending says
   pub found-in : {area after : List ℤ} {v : Verdict} (room : ℕ) → room ≡ roomOf n area
       → Finds n 0 (m .depth) (walkOf (plain m) room) area v after → Finds n 0 (m .depth) (endingOf m area) area v after
   found-in {area} {after} {v} room e f =

@@ -2,18 +2,17 @@
 use mathlib.Core.Bool.{cond}
 use mathlib.Core.List.{List, []}
 use mathlib.Core.Path.{_≡_}
-use Prim.Native.Nat.{ℕ, _*_, _≤_, _<_}
+use Prim.Native.Nat.{ℕ, _*_, _≤_}
 use lib.Dec.{eqb}
 use lib.IntN.{ℤ, pos}
 use lib.ListN.{length, drop}
-use Rattle.numbers.specs.declared.Refusal.{Refusal}
 use Rattle.numbers.specs.declared.Refusal.the-variants.{Room}
 use Rattle.sets.specs.Limits.{Clocks}
 use Rattle.sets.specs.declared.Told.{Told}
 use Rattle.sets.specs.declared.Told.the-variants.{Yes, No, Refused}
 use Rattle.making.specs.declared.Made.{Made}
 use Rattle.making.specs.declared.Made.the-variants.{Vectors, Refused as MadeRefused}
-use Rattle.runs.specs.Models.{Bound, System}
+use Rattle.runs.specs.Models.{System}
 use Rattle.runs.specs.Rule.{Step, made, stop, State, Walk, Outcome, going, met, stopped, cutAll, judge}
 use Rattle.runs.specs.Rule.{Ending, ends-reached, ends-never, ends-open, ends-refused, answerOf}
 use Rattle.runs.specs.Verdicts.{answerBy}
@@ -36,6 +35,7 @@ tally kept tried = record { kept = kept; tried = tried }
 abbrev pub walkIn : ℕ → Tally → List ℤ → Walk
 walkIn n y area = record { kept = statesIn n (y .kept) area; tried = y .tried }
 
+-- the outcome that an answer stands for
 abbrev pub outcomeIn : ℕ → Moved → List ℤ → Outcome
 outcomeIn n (Going y) area = going (walkIn n y area)
 outcomeIn n (Met y) area = met (walkIn n y area)
@@ -58,6 +58,7 @@ pub record Grows (n room k t : ℕ) (before : List ℤ) (y : Tally) (after : Lis
   pub recorded : Recorded n (y .kept) after
   pub behind : drop (y .kept * recordSize n) after ≡ drop (y .kept * recordSize n) before
 
+-- the same of an answer
 abbrev pub GrowsBy : ℕ → ℕ → ℕ → ℕ → List ℤ → Moved → List ℤ → Type 0
 GrowsBy n room k t before (Going y) after = Grows n room k t before y after
 GrowsBy n room k t before (Met y) after = Grows n room k t before y after
@@ -81,6 +82,7 @@ aimed n goal =
       goal = boundsOf n (goal .list);
     }
 
+-- where the target test leaves the walk
 abbrev pub metBy : Told → Tally → Moved
 metBy Yes y = Met y
 metBy No y = Going y
@@ -113,6 +115,7 @@ pub record Left (n k : ℕ) (kept : List State) (before after : List ℤ) : Type
   pub more : k ≤ length kept
   pub is : after ≡ holding n kept before
 
+-- the same of an ending
 abbrev pub LeftBy : ℕ → ℕ → Ending → List ℤ → List ℤ → Type 0
 LeftBy n k (ends-reached w) before after = Left n k (w .kept) before after
 LeftBy n k (ends-never w) before after = Left n k (w .kept) before after

@@ -1,10 +1,11 @@
 // The candidates of a state, the states of a layer, layer after layer.
 ghost use mathlib.Core.Path.{_≡_};
 ghost use Prim.Native.Nat.{_+_, _*_, _≤_, _<_};
+ghost use lib.ListN.{getD};
 ghost use Rattle.bounds.specs.Limits.{BoundsLimits};
-ghost use Rattle.model.specs.Limits.{ModelLimits};
+ghost use Rattle.model.specs.Outlines.{modelBy, Outlines};
 ghost use Rattle.model.specs.Plain.{plain, boundsOf, edgeOf};
-ghost use Rattle.runs.specs.Rule.{following, keep as keepBy, expand as expandBy, layer as layerBy, layers as layersBy};
+ghost use Rattle.runs.specs.Rule.{following, keep as keepBy, tryEdge, expand as expandBy, layer as layerBy, layers as layersBy};
 ghost use Rattle.runs.specs.Rule.{nothing, zeroth, begun, walkOf};
 ghost use Rattle.runs.proofs.Depths.{Layer};
 ghost use Rattle.steps.specs.Steps.{Listed};
@@ -17,7 +18,8 @@ use crate::keeping;
 use bounds::Bounds;
 use making::Made;
 use model::Edge;
-use model::Model;
+use model::Outline;
+use model::places;
 use numbers::Refusal;
 use runs::Verdict;
 
@@ -63,41 +65,69 @@ fn form(
     keeping::judge(n, goal, area, room, y, q, i as i32, e as i32, &out[..words])
 }
 
-// Tries each edge at state i.
-fn expand(model: Model, area: &mut [i32], room: usize, y: Tally, i: usize) -> Moved
-    requires { ⌜ ModelLimits model × Ready (model .clocks) room y (now area) × (i < y .kept) × (y .tried ≤ i * 64) ⌝ }
-    ensures { λ r. ⌜ Does (model .clocks) room (y .kept) ((i + 1) * 64)
-        (expandBy (plain model .system) room i (walkIn (model .clocks) y (now (area .entry))))
+// Forms the candidate over edge e, which leaves the location of state i.
+fn follow(
+    bytes: &[u8],
+    outline: Outline,
+    area: &mut [i32],
+    room: usize,
+    y: Tally,
+    i: usize,
+    e: usize,
+) -> Moved
+    requires { ⌜ Outlines (now bytes) outline × Ready (outline .clocks) room y (now area) × (i < y .kept) × (y .tried < 4096) ⌝ }
+    requires { ⌜ (e < outline .edges) × (getD (outline .sources) e 0 ≡ stateIn (outline .clocks) (now area) i .location) ⌝ }
+    ensures { λ r. ⌜ Does (outline .clocks) room (y .kept) (y .tried + 1)
+        (tryEdge (plain (modelBy (now (bytes .entry)) outline) .system) room i e (walkIn (outline .clocks) y (now (area .entry))))
         (now (area .entry)) r (now (area .exit)) ⌝ }
 {
-    let n = model.clocks as usize;
-    let edges = model.edges as usize;
-    let location = model.target;
-    let list = model.list;
-    let goal = Goal { location, list };
+    let at = outline.steps[e];
+    let edge = places::edge_at(bytes, at, outline.clocks, outline.locations);
+    let from = outline.invariants[edge.destination as usize];
+    let invariant = places::list_at(bytes, from, outline.clocks);
+    let location = outline.target;
+    let list = places::list_at(bytes, outline.list, outline.clocks);
+    let tally = Tally {
+        kept: y.kept,
+        tried: y.tried + 1,
+    };
+    form(
+        outline.clocks as usize,
+        Goal { location, list },
+        edge,
+        invariant,
+        area,
+        room,
+        tally,
+        i,
+        e,
+    )
+}
+
+// Tries each edge at state i.
+fn expand(
+    bytes: &[u8],
+    outline: Outline,
+    area: &mut [i32],
+    room: usize,
+    y: Tally,
+    i: usize,
+) -> Moved
+    requires { ⌜ Outlines (now bytes) outline × Ready (outline .clocks) room y (now area) × (i < y .kept) × (y .tried ≤ i * 64) ⌝ }
+    ensures { λ r. ⌜ Does (outline .clocks) room (y .kept) ((i + 1) * 64)
+        (expandBy (plain (modelBy (now (bytes .entry)) outline) .system) room i (walkIn (outline .clocks) y (now (area .entry))))
+        (now (area .entry)) r (now (area .exit)) ⌝ }
+{
+    let n = outline.clocks as usize;
+    let edges = outline.edges as usize;
     let mut s = y;
     let mut e = 0;
     while e < edges {
         let place = area::locate(area, n, i);
         let here = place.location;
-        let source = model.steps[e].source;
+        let source = outline.sources[e];
         let r = if source == here {
-            let edge = model.steps[e];
-            let q = edge.destination as usize;
-            let invariant = model.invariants[q];
-            let kept = s.kept;
-            let tried = s.tried + 1;
-            form(
-                n,
-                goal,
-                edge,
-                invariant,
-                area,
-                room,
-                Tally { kept, tried },
-                i,
-                e,
-            )
+            follow(bytes, outline, area, room, s, i, e)
         } else {
             Moved::Going(s)
         };
@@ -111,17 +141,17 @@ fn expand(model: Model, area: &mut [i32], room: usize, y: Tally, i: usize) -> Mo
 }
 
 // Expands each state of the layer that begins with state b.
-fn layer(model: Model, area: &mut [i32], room: usize, y: Tally, b: usize) -> Moved
-    requires { ⌜ ModelLimits model × Ready (model .clocks) room y (now area) × (b ≤ y .kept) × (y .tried ≤ b * 64) ⌝ }
-    ensures { λ r. ⌜ Does (model .clocks) room (y .kept) (y .kept * 64)
-        (layerBy (plain model .system) room b (walkIn (model .clocks) y (now (area .entry))))
+fn layer(bytes: &[u8], outline: Outline, area: &mut [i32], room: usize, y: Tally, b: usize) -> Moved
+    requires { ⌜ Outlines (now bytes) outline × Ready (outline .clocks) room y (now area) × (b ≤ y .kept) × (y .tried ≤ b * 64) ⌝ }
+    ensures { λ r. ⌜ Does (outline .clocks) room (y .kept) (y .kept * 64)
+        (layerBy (plain (modelBy (now (bytes .entry)) outline) .system) room b (walkIn (outline .clocks) y (now (area .entry))))
         (now (area .entry)) r (now (area .exit)) ⌝ }
 {
     let end = y.kept;
     let mut s = y;
     let mut i = b;
     while i < end {
-        let r = expand(model, area, room, s, i);
+        let r = expand(bytes, outline, area, room, s, i);
         let Moved::Going(next) = r else {
             return r;
         };
@@ -150,20 +180,20 @@ fn ended(r: Moved, edges: usize) -> Verdict
 }
 
 // Makes layer after layer, to the depth.
-fn layers(model: Model, area: &mut [i32], room: usize, y: Tally) -> Verdict
-    requires { ⌜ ModelLimits model × Ready (model .clocks) room y (now area) × (y .tried ≡ 0)
-        × Layer 0 0 (statesIn (model .clocks) (y .kept) (now area)) ⌝ }
-    ensures { λ v. ⌜ Finds (model .clocks) (y .kept) (model .depth)
-        (layersBy (plain model .system) room (model .depth) 0 (walkIn (model .clocks) y (now (area .entry))))
+fn layers(bytes: &[u8], outline: Outline, area: &mut [i32], room: usize, y: Tally) -> Verdict
+    requires { ⌜ Outlines (now bytes) outline × Ready (outline .clocks) room y (now area) × (y .tried ≡ 0)
+        × Layer 0 0 (statesIn (outline .clocks) (y .kept) (now area)) ⌝ }
+    ensures { λ v. ⌜ Finds (outline .clocks) (y .kept) (outline .depth)
+        (layersBy (plain (modelBy (now (bytes .entry)) outline) .system) room (outline .depth) 0 (walkIn (outline .clocks) y (now (area .entry))))
         (now (area .entry)) v (now (area .exit)) ⌝ }
 {
-    let depth = model.depth as usize;
+    let depth = outline.depth as usize;
     let mut s = y;
     let mut b = 0;
     let mut d = 0;
     while d < depth {
         let end = s.kept;
-        let r = layer(model, area, room, s, b);
+        let r = layer(bytes, outline, area, room, s, b);
         let Moved::Going(next) = r else {
             return ended(r, d + 1);
         };
@@ -182,38 +212,39 @@ fn layers(model: Model, area: &mut [i32], room: usize, y: Tally) -> Verdict
 }
 
 // Keeps state 0, and makes the layers behind it.
-fn root(model: Model, area: &mut [i32], room: usize, list: &[i32]) -> Verdict
-    requires { ⌜ ModelLimits model × Ready (model .clocks) room (tally 0 0) (now area) × Listed (model .clocks) (now list) ⌝ }
-    ensures { λ v. ⌜ Finds (model .clocks) 0 (model .depth)
-        (begun (layersBy (plain model .system) room (model .depth) 0)
-        (keepBy (plain model .system) room (zeroth (plain model .system) (now (list .entry))) nothing))
+fn root(bytes: &[u8], outline: Outline, area: &mut [i32], room: usize, list: &[i32]) -> Verdict
+    requires { ⌜ Outlines (now bytes) outline × Ready (outline .clocks) room (tally 0 0) (now area) × Listed (outline .clocks) (now list) ⌝ }
+    ensures { λ v. ⌜ Finds (outline .clocks) 0 (outline .depth)
+        (begun (layersBy (plain (modelBy (now (bytes .entry)) outline) .system) room (outline .depth) 0)
+        (keepBy (plain (modelBy (now (bytes .entry)) outline) .system) room (zeroth (plain (modelBy (now (bytes .entry)) outline) .system) (now (list .entry))) nothing))
         (now (area .entry)) v (now (area .exit)) ⌝ }
 {
-    let n = model.clocks as usize;
-    let location = model.target;
-    let bounds = model.list;
+    let n = outline.clocks as usize;
+    let location = outline.target;
+    let bounds = places::list_at(bytes, outline.list, outline.clocks);
     let goal = Goal {
         location,
         list: bounds,
     };
-    let q = model.initial;
+    let q = outline.initial;
     let y = Tally { kept: 0, tried: 0 };
     let r = keeping::store(n, goal, area, room, y, q, -1, -1, list);
     let Moved::Going(s) = r else {
         return ended(r, 0);
     };
-    layers(model, area, room, s)
+    layers(bytes, outline, area, room, s)
 }
 
 // The whole walk, but for what a refusal leaves in the area.
-pub fn begin(model: Model, area: &mut [i32], room: usize) -> Verdict
-    requires { ⌜ ModelLimits model × Ready (model .clocks) room (tally 0 0) (now area) ⌝ }
-    ensures { λ v. ⌜ Finds (model .clocks) 0 (model .depth) (walkOf (plain model) room)
+pub fn begin(bytes: &[u8], outline: Outline, area: &mut [i32], room: usize) -> Verdict
+    requires { ⌜ Outlines (now bytes) outline × Ready (outline .clocks) room (tally 0 0) (now area) ⌝ }
+    ensures { λ v. ⌜ Finds (outline .clocks) 0 (outline .depth) (walkOf (plain (modelBy (now (bytes .entry)) outline)) room)
         (now (area .entry)) v (now (area .exit)) ⌝ }
 {
-    let n = model.clocks as usize;
-    let q = model.initial as usize;
-    let invariant = model.invariants[q];
+    let n = outline.clocks as usize;
+    let q = outline.initial as usize;
+    let from = outline.invariants[q];
+    let invariant = places::list_at(bytes, from, outline.clocks);
     let zeros = [0i32; 7];
     let mut out = [0i32; 224];
     let made = steps::enter(n, invariant, &zeros[..n + 1], &mut out);
@@ -224,5 +255,5 @@ pub fn begin(model: Model, area: &mut [i32], room: usize) -> Verdict
         return Verdict::Never { kept: 0, tried: 0 };
     }
     let words = k * (n + 1);
-    root(model, area, room, &out[..words])
+    root(bytes, outline, area, room, &out[..words])
 }

@@ -1,9 +1,9 @@
 // The walk: layer after layer over the state area, from a model's bytes to the verdict.
-ghost use Rattle.model.specs.Limits.{ModelLimits};
+ghost use Rattle.model.specs.Outlines.{modelBy, Outlines};
 ghost use Rattle.walk.specs.Walks.{WalksModel, Walks};
 use bounds::Bounds;
 use codec::Step;
-use model::Model;
+use model::Outline;
 use numbers::Refusal;
 use runs::Verdict;
 
@@ -29,18 +29,18 @@ pub enum Moved {
     Stopped(Refusal),
 }
 
-// Walks a model: SHAPE for an area under one record, then the walk; its refusal leaves every word 0.
-pub fn walk_model(model: Model, area: &mut [i32]) -> Verdict
-    requires { ⌜ ModelLimits model ⌝ }
-    ensures { λ v. ⌜ WalksModel model (now (area .entry)) v (now (area .exit)) ⌝ }
+// Walks a model by its outline: SHAPE for an area under one record, then the walk; its refusal leaves every word 0.
+pub fn walk_outline(bytes: &[u8], outline: Outline, area: &mut [i32]) -> Verdict
+    requires { ⌜ Outlines (now bytes) outline ⌝ }
+    ensures { λ v. ⌜ WalksModel (modelBy (now (bytes .entry)) outline) (now (area .entry)) v (now (area .exit)) ⌝ }
 {
-    let n = model.clocks as usize;
+    let n = outline.clocks as usize;
     let size = area::size(n);
     if area.len() < size {
         return Verdict::Refused(Refusal::Shape);
     }
     let room = area::room(area, n);
-    let v = layers::begin(model, area, room);
+    let v = layers::begin(bytes, outline, area, room);
     let Verdict::Refused(e) = v else {
         return v;
     };
@@ -52,11 +52,11 @@ pub fn walk_model(model: Model, area: &mut [i32]) -> Verdict
 pub fn walk(bytes: &[u8], area: &mut [i32]) -> Verdict
     ensures { λ v. ⌜ Walks (now (bytes .entry)) (now (area .entry)) v (now (area .exit)) ⌝ }
 {
-    let reading = model::read(bytes);
-    let step = reading.step;
-    let model = reading.model;
+    let r = model::places::read_outline(bytes);
+    let step = r.step;
+    let outline = r.outline;
     let Step::At(_) = step else {
         return Verdict::Refused(step.why());
     };
-    walk_model(model, area)
+    walk_outline(bytes, outline, area)
 }

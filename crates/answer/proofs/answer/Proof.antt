@@ -1,4 +1,4 @@
-use Rattle.walk.proofs.WalkLaws.{read-value}
+use Rattle.walk.proofs.WalkLaws.{outline-value}
 use Rattle.answer.proofs.PrintLaws.{prints-short, refused-fits, prints-unread, prints-read}
 use borrow.Author.Needs.{needs}
 use native.Mathlib.Omega.{arith}
@@ -14,8 +14,8 @@ long c = omega (arith, c .if1 .left)
 returns : tie.Need-returns
 returns c = prints-short _ _ (c .before .before .before .args .text .now) (omega (arith, c .if1 .taken))
 
-read-requires : tie.Need-read-requires
-read-requires c κs = search needs
+read-outline-requires : tie.Need-read-outline-requires
+read-outline-requires c κs = search needs
 
 enum-told : tie.Need-enum-told
 enum-told c = search needs
@@ -37,14 +37,14 @@ returns-2 : tie.Need-returns-2
 returns-2 c =
     let y = c .before .before .before in
     let x = y .before .before .before .before .before in
-    prints-unread _ _ _ (x .read .result .step) (long (x .before)) (x .read .ensures)
+    prints-unread _ _ _ (x .read-outline .result .step) (long (x .before)) (x .read-outline .ensures)
     (y .before .before .before .match .keys2) (y .why .ensures) (c .before .before .head .ensures)
 
 print-requires : tie.Need-print-requires
 print-requires c κs =
     let e = c .before .before in
     let x = e .before .before .before in
-    record { limits = x .read .ensures .stands _ (e .enum-told .given .1) .limits; room = long (x .before) }
+    record { outlined = x .read-outline .ensures .holds _ (e .enum-told .given .1); room = long (x .before) }
 
 same-length-2 : tie.Need-same-length-2
 same-length-2 c = search needs
@@ -57,15 +57,15 @@ returns-3 c =
     let e = c .before .before .before .before .before .before in
     let x = e .before .before .before in
     prints-read _ _ _ (long (x .before))
-    (read-value _ (x .read .result .step) _ _ (x .read .ensures) (e .enum-told .given .1))
-    (x .read .ensures .stands _ (e .enum-told .given .1) .limits) (c .before .before .before .print .ensures)
+    (outline-value _ (x .read-outline .result .step) _ _ (x .read-outline .ensures) (e .enum-told .given .1))
+    (x .read-outline .ensures .holds _ (e .enum-told .given .1) .limits) (c .before .before .before .print .ensures)
 
 pub answer-spec : {M : Type 1} → statement M
 answer-spec =
     tie.close
     (tie.spec
     returns
-    read-requires
+    read-outline-requires
     enum-told
     enum-told-2
     why-requires

@@ -1,13 +1,10 @@
 use native.Mathlib.Omega.{arith}
-use mathlib.Core.Path.{_≡_, sym, _∙_, subst}
+use mathlib.Core.Path.{_≡_, sym, subst}
 use Prim.Native.Nat.{_-_, _≤_}
 use Rattle.area.proofs.CoverLaws.{None, none-start, none-next, some-next}
 use borrow.Author.Needs.{needs}
 use Rattle.area.proofs.covered.Statement.{statement}
 use Rattle.area.proofs.covered.Tie as tie
-use Rattle.area.proofs.covered.Reads as reads
-use Rattle.area.proofs.covered.Lts as lts
-use Rattle.area.proofs.covers.Reads as covers-reads
 
 abbrev Inv-loop : tie.InvT-loop
 Inv-loop area n k q list i₀ i = (i ≤ k) × None n q list area i

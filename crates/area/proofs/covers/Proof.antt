@@ -4,11 +4,6 @@ use Rattle.area.proofs.CoverLaws.{covers-asks, covers-not}
 use Rattle.area.specs.Records.{stateIn}
 use Rattle.area.proofs.covers.Statement.{statement}
 use Rattle.area.proofs.covers.Tie as tie
-use Rattle.area.proofs.covers.Reads as reads
-use Rattle.area.proofs.covers.Lts as lts
-use Rattle.area.proofs.is_yes.Reads as is-yes-reads
-use Rattle.area.proofs.locate.Reads as locate-reads
-use Rattle.sets.proofs.included.Reads as included-reads
 
 locate-requires : tie.Need-locate-requires
 locate-requires c κs = search needs

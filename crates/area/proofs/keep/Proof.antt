@@ -1,19 +1,16 @@
 use borrow.Author.Needs.{needs}
 use native.Mathlib.Omega.{arith}
 use mathlib.Core.Path.{_≡_, ap, _∙_}
-use Prim.Native.Nat.{ℕ, suc, _+_, _*_, _/_, _≤_}
+use Prim.Native.Nat.{ℕ, _+_, _*_, _/_, _≤_}
 use native.Mathlib.Numerals.{add-one}
 use lib.ListN.{length}
 use Rattle.algebra.specs.Vectors.{count}
-use Rattle.area.proofs.KeepLaws.{row-room, part-room, word-is, keep-law}
+use Rattle.numbers.proofs.WordLaws.{word-is}
+use Rattle.area.proofs.KeepLaws.{row-room, part-room, keep-law}
 use mir.Facts.{toZ-ofZ}
 use lib.IntN.{pos}
 use Rattle.area.proofs.keep.Statement.{statement}
 use Rattle.area.proofs.keep.Tie as tie
-use Rattle.area.proofs.keep.Reads as reads
-use Rattle.area.proofs.keep.Lts as lts
-use Rattle.area.proofs.size.Reads as size-reads
-use Rattle.area.proofs.write.Reads as write-reads
 
 -- record k lies in the area
 r : (c : tie.After-size) → c .before .args .k * c .size .result + c .size .result ≤ length (c .before .args .area .now)

@@ -11,9 +11,6 @@ use Rattle.area.specs.Records.{stateIn}
 use Rattle.area.proofs.RecordLaws.{read-room, location-read, location-small, count-read, few-read, places}
 use Rattle.area.proofs.locate.Statement.{statement}
 use Rattle.area.proofs.locate.Tie as tie
-use Rattle.area.proofs.locate.Reads as reads
-use Rattle.area.proofs.locate.Lts as lts
-use Rattle.area.proofs.size.Reads as size-reads
 
 -- the words that are read lie in the area
 r : (c : tie.After-size) → c .before .args .i * c .size .result + (4 + 32 * suc (c .before .args .n))

@@ -3,9 +3,6 @@ use native.Mathlib.Omega.{arith}
 use Rattle.area.proofs.RecordLaws.{size-is, room-few, room-many}
 use Rattle.area.proofs.room.Statement.{statement}
 use Rattle.area.proofs.room.Tie as tie
-use Rattle.area.proofs.room.Reads as reads
-use Rattle.area.proofs.room.Lts as lts
-use Rattle.area.proofs.size.Reads as size-reads
 
 size-requires : tie.Need-size-requires
 size-requires c κs = search needs

@@ -2,8 +2,6 @@ use borrow.Author.Needs.{needs}
 use Rattle.area.proofs.RecordLaws.{size-plus}
 use Rattle.area.proofs.size.Statement.{statement}
 use Rattle.area.proofs.size.Tie as tie
-use Rattle.area.proofs.size.Reads as reads
-use Rattle.area.proofs.size.Lts as lts
 
 add-result : tie.Need-add-result
 add-result c = search needs

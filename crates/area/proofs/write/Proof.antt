@@ -3,10 +3,6 @@ use lib.ListN.{length, length-set}
 use Rattle.area.proofs.KeepLaws.{write-seen}
 use Rattle.area.proofs.write.Statement.{statement}
 use Rattle.area.proofs.write.Tie as tie
-use Rattle.area.proofs.write.Reads as reads
-use Rattle.area.proofs.write.Lts as lts
-use Rattle.area.proofs.zero.Reads as zero-reads
-use Rattle.sorting.proofs.copy.Reads as copy-reads
 
 zero-requires : tie.Need-zero-requires
 zero-requires c κs = search needs

@@ -7,8 +7,6 @@ use Rattle.area.proofs.KeepLaws.{zero-next, zero-done}
 use borrow.Author.Needs.{needs}
 use Rattle.area.proofs.zero.Statement.{statement}
 use Rattle.area.proofs.zero.Tie as tie
-use Rattle.area.proofs.zero.Reads as reads
-use Rattle.area.proofs.zero.Lts as lts
 
 abbrev Inv-loop : tie.InvT-loop
 Inv-loop words₀ j₀ words j = (j ≤ length words₀) × (take j words ≡ replicate j (pos 0)) × (length words ≡ length words₀)

@@ -3,7 +3,8 @@ use Prim.Native.Nat.{_/_, _≤_}
 use lib.IntN.{pos, +ℤ-idl}
 use mir.Facts.{toZ-ofZ}
 use borrow.Author.Tests.{eq-eqb, ne-eqb}
-use Rattle.codec.proofs.FoldLaws.{neg-fits, half-is, half-neg, minus-one, negsuc-fits}
+use Rattle.numbers.proofs.WordLaws.{word-is}
+use Rattle.codec.proofs.FoldLaws.{neg-fits, half-neg, minus-one, negsuc-fits}
 use borrow.Author.Needs.{needs}
 use native.Mathlib.Omega.{arith}
 use Rattle.codec.proofs.unfold.Statement.{statement}
@@ -14,14 +15,14 @@ cast-result c = search needs
 
 returns : tie.Need-returns
 returns c = let n = c .before .args .v / 2 in let h : n ≤ 1000000 =
-    omega (arith, c .before .pre) in rw (half-is n h, eq-eqb _ _ (c .if1 .taken)) refl
+    omega (arith, c .before .pre) in rw (word-is n (omega (arith, h)), eq-eqb _ _ (c .if1 .taken)) refl
 
 cast-result-2 : tie.Need-cast-result-2
 cast-result-2 c = search needs
 
 sub-result : tie.Need-sub-result
 sub-result c = let n = c .before .args .v / 2 in let h : n ≤ 1000000 =
-    omega (arith, c .before .pre) in rw (half-is n h, +ℤ-idl) (neg-fits (pos n) h)
+    omega (arith, c .before .pre) in rw (word-is n (omega (arith, h)), +ℤ-idl) (neg-fits (pos n) h)
 
 sub-result-2 : tie.Need-sub-result-2
 sub-result-2 c = let n = c .before .args .v / 2 in let h : n ≤ 1000000 =

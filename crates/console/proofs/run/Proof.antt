@@ -4,12 +4,6 @@ use lib.Seq.{length-take-le}
 use Rattle.answer.proofs.Theorems.{text-within}
 use Rattle.console.proofs.run.Statement.{statement}
 use Rattle.console.proofs.run.Tie as tie
-use Rattle.console.proofs.run.Reads as reads
-use Rattle.console.proofs.run.Lts as lts
-use Rattle.answer.proofs.answer.Reads as answer-reads
-use Rattle.io.proofs.large_buffer.Reads as large-buffer-reads
-use Rattle.io.proofs.read_full.Reads as read-full-reads
-use Rattle.io.proofs.write_all.Reads as write-all-reads
 
 large-buffer-requires : tie.Need-large-buffer-requires
 large-buffer-requires c κs = search needs

@@ -1,6 +1,5 @@
 use borrow.Author.Needs.{needs}
-use Rattle.walk.proofs.WalkLaws.{read-value}
-use Rattle.exports.proofs.CallLaws.{written-fits, rewrites-unread, rewrites-read}
+use Rattle.exports.proofs.CallLaws.{written-fits, read-value, rewrites-unread, rewrites-read}
 use Rattle.exports.proofs.scionwheel_rewrite.Statement.{statement}
 use Rattle.exports.proofs.scionwheel_rewrite.Tie as tie
 

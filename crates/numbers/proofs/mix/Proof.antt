@@ -7,19 +7,19 @@ use mir.Facts.{toZ-ofZ}
 use Rattle.numbers.specs.Numbers.{Within}
 use Rattle.numbers.specs.Words.{number}
 use Rattle.numbers.specs.Places.{entries}
-use Rattle.numbers.proofs.PlaceLaws.{Mixing, mixing-start, mixing-next, mixing-done}
+use Rattle.numbers.proofs.PlaceLaws.{Filling, filling-start, filling-next, mixing, mixing-done}
 use borrow.Author.Needs.{needs}
 use Rattle.numbers.proofs.mix.Statement.{statement}
 use Rattle.numbers.proofs.mix.Tie as tie
 
 abbrev Inv-loop : tie.InvT-loop
-Inv-loop out₀ s h t j₀ out j = Mixing out₀ (number (toZ w32 s)) h (number (toZ w32 t)) out j
+Inv-loop out₀ s h t j₀ out j = Filling 0 (mixing (number (toZ w32 s)) h (number (toZ w32 t))) out₀ out j
 
 abbrev μ-loop : tie.MeasureT-loop
 μ-loop out₀ s h t j₀ out j = length out₀ - j
 
 loop-holds : tie.Need-loop-holds Inv-loop μ-loop
-loop-holds c = mixing-start _ _ _ _
+loop-holds c = filling-start _ _ _ (omega arith)
 
 mul-old : tie.Need-mul-old Inv-loop μ-loop
 mul-old c = search needs
@@ -67,7 +67,7 @@ loop-again : tie.Need-loop-again Inv-loop μ-loop
 loop-again c =
     let l = c .before .before .before .before .before .before .loop in
     let d = c .before .before .before in
-    mixing-next _ _ _ _ (l .out) (l .j) _ (l .inv) (omega arith)
+    filling-next _ _ _ (l .out) (l .j) _ (l .inv) (omega arith)
     (search (needs, c .larger .ensures, d .product .ensures, c .before .product2 .ensures))
 
 same-length : tie.Need-same-length Inv-loop μ-loop

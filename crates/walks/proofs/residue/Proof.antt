@@ -1,15 +1,11 @@
-use mathlib.Core.Path.{_≡_}
-use mathlib.Core.Bool.{true, false, true≢false}
-use borrow.Author.Tests.{ltb-true}
 use Prim.Native.Nat.{_<_}
 use native.Mathlib.Omega.{arith}
 use lib.Dec.{T}
 use lib.IntN.{ℤ, pos, negsuc, natAbs, _-ℤ_}
-use lib.Signed.{ltZ, mag, nonNeg}
+use lib.Signed.{mag, nonNeg}
 use mir.Syntax.{w32}
 use mir.Val.{Fits, SFits}
-use Rattle.numbers.specs.Integers.{lo}
-use Rattle.numbers.proofs.WordLaws.{back, not-mark}
+use Rattle.numbers.proofs.WordLaws.{back, not-mark, not-below, negated}
 use borrow.Author.Needs.{needs}
 use Rattle.walks.proofs.residue.Statement.{statement}
 use Rattle.walks.proofs.residue.Tie as tie
@@ -18,15 +14,6 @@ use Rattle.walks.proofs.residue.Tie as tie
 cast : (z : ℤ) → mag z < 2147483648 → T (nonNeg z) → T (nonNeg z) × Fits w32 (natAbs z)
 cast (pos k) f t = (t, record { fits = omega arith })
 cast (negsuc k) f t = absurd t
-
-plain : (z : ℤ) → ltZ z (pos 0) ≡ false → T (nonNeg z)
-plain (pos k) e = tt
-plain (negsuc k) e = true≢false e
-
--- one that is below 0 can be negated
-negated : (z : ℤ) → lo z < 2147483648 → ltZ z (pos 0) ≡ true → SFits w32 (pos 0 -ℤ z) × T (nonNeg (pos 0 -ℤ z))
-negated (pos k) f e = absurd (omega (arith, ltb-true k 0 e))
-negated (negsuc k) f e = (record { sfits = omega arith }, tt)
 
 returns : tie.Need-returns
 returns c = search needs
@@ -57,7 +44,7 @@ cast-result : tie.Need-cast-result
 cast-result c =
     let s = c .before .before in
     let f = s .fits .x .sfits in
-    rw (back f) (cast (s .args .x) f (plain (s .args .x) (rw (back f) at (c .if2 .left))))
+    rw (back f) (cast (s .args .x) f (not-below (s .args .x) (rw (back f) at (c .if2 .left))))
 
 returns-3 : tie.Need-returns-3
 returns-3 c = search needs

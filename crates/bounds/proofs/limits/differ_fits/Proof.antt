@@ -1,7 +1,7 @@
 use native.Mathlib.Omega.{arith}
 use Rattle.numbers.proofs.IntegerLaws.{zarith}
 use Rattle.numbers.proofs.Tells.{never, means}
-use Rattle.codec.proofs.FoldLaws.{same-word}
+use Rattle.numbers.proofs.WordLaws.{back}
 use Rattle.bounds.proofs.LimitLaws.{tells-none}
 use borrow.Author.Needs.{needs}
 use Rattle.bounds.proofs.limits.differ_fits.Statement.{statement}
@@ -19,7 +19,7 @@ returns-3 c = never (λ w. w .differ (c .if3 .taken))
 returns-4 : tie.Need-returns-4
 returns-4 c =
     let low =
-    rw (same-word _
+    rw (back
     (c .before .before .before .before .before .before .before .before .struct-told .given .1 .1 .1 .0 .1))
     at (c .if4 .taken) in
     never (λ w. omega (zarith, w .least .le, low))
@@ -27,7 +27,7 @@ returns-4 c =
 returns-5 : tie.Need-returns-5
 returns-5 c =
     let high =
-    rw (same-word _
+    rw (back
     (c .before .before .before .before .before .before .before .before .before .struct-told .given .1 .1 .1
     .0 .1)) at (c .if5 .taken) in
     never (λ w. omega (zarith, w .most .le, high))
@@ -38,8 +38,8 @@ half-fits-requires c κs = search needs
 returns-6 : tie.Need-returns-6
 returns-6 c =
     let word =
-    same-word
-    (c .before .before .before .before .before .before .before .before .before .before .before .args .b .k)
+    back
+    {z = c .before .before .before .before .before .before .before .before .before .before .before .args .b .k}
     (c .before .before .before .before .before .before .before .before .before .before .struct-told
     .given .1 .1 .1 .0 .1) in
     let least = rw word at (c .before .before .if4 .left) in

@@ -6,7 +6,7 @@ use Prim.Native.Nat.{_-_}
 use borrow.Author.Tests.{not-true, not-false}
 use Rattle.numbers.proofs.Tells.{always, never}
 use Rattle.codec.proofs.PackedLaws.{Checked, check-start, check-more, check-done, check-each}
-use Rattle.codec.proofs.FoldLaws.{same-word}
+use Rattle.numbers.proofs.WordLaws.{back}
 use Rattle.bounds.specs.Limits.{EntryLimits}
 use borrow.Author.Needs.{needs}
 use Rattle.bounds.proofs.limits.half_fits.Statement.{statement}
@@ -33,7 +33,7 @@ place-fits-requires c κs = search needs
 returns : tie.Need-returns Inv-loop μ-loop
 returns c =
     let l = c .before .before .before .before .loop in
-    let told = rw (same-word _ (c .before .before .z .given)) at (c .before .place-fits .ensures) in
+    let told = rw (back (c .before .before .z .given)) at (c .before .place-fits .ensures) in
     never (λ w. told .no (not-true _ (c .if1 .taken))
     (check-each (pos 0) w (l .i) (omega (arith, c .before .before .before .loop-test .taken))))
 
@@ -45,7 +45,7 @@ loop-less c = search needs
 
 loop-again : tie.Need-loop-again Inv-loop μ-loop
 loop-again c =
-    let told = rw (same-word _ (c .before .before .z .given)) at (c .before .place-fits .ensures) in
+    let told = rw (back (c .before .before .z .given)) at (c .before .place-fits .ensures) in
     check-more (c .before .before .before .before .loop .inv) (told .yes (not-false _ (c .if1 .left)))
 
 returns-2 : tie.Need-returns-2 Inv-loop μ-loop

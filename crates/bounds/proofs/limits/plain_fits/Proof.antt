@@ -1,7 +1,7 @@
 use native.Mathlib.Omega.{arith}
 use Rattle.numbers.proofs.IntegerLaws.{zarith}
 use Rattle.numbers.proofs.Tells.{never, means}
-use Rattle.codec.proofs.FoldLaws.{same-word}
+use Rattle.numbers.proofs.WordLaws.{back}
 use Rattle.bounds.proofs.LimitLaws.{tells-none}
 use borrow.Author.Needs.{needs}
 use Rattle.bounds.proofs.limits.plain_fits.Statement.{statement}
@@ -12,13 +12,13 @@ returns c = never (λ w. omega (arith, c .if1 .taken, w .clock))
 
 returns-2 : tie.Need-returns-2
 returns-2 c =
-    let low = rw (same-word _ (c .before .before .before .before .struct-told .given .1 .1 .1 .0 .1)) at
+    let low = rw (back (c .before .before .before .before .struct-told .given .1 .1 .1 .0 .1)) at
     (c .if2 .taken) in
     never (λ w. omega (zarith, w .least .le, low))
 
 returns-3 : tie.Need-returns-3
 returns-3 c =
-    let high = rw (same-word _ (c .before .before .before .before .before .struct-told .given .1 .1 .1 .0 .1)) at
+    let high = rw (back (c .before .before .before .before .before .struct-told .given .1 .1 .1 .0 .1)) at
     (c .if3 .taken) in
     never (λ w. omega (zarith, w .most .le, high))
 
@@ -30,7 +30,7 @@ half-fits-requires c κs = search needs
 
 returns-5 : tie.Need-returns-5
 returns-5 c =
-    let word = same-word (c .before .before .before .before .before .before .before .before .before .args .b .k)
+    let word = back {z = c .before .before .before .before .before .before .before .before .before .args .b .k}
     (c .before .before .before .before .before .before .before .before .struct-told .given .1 .1 .1 .0 .1) in
     let least = rw word at (c .before .before .before .before .if2 .left) in
     let most = rw word at (c .before .before .before .if3 .left) in

@@ -1,5 +1,5 @@
 use mathlib.Core.Path.{refl}
-use Rattle.codec.proofs.FoldLaws.{same-word}
+use Rattle.numbers.proofs.WordLaws.{back}
 use borrow.Author.Tests.{eq-eqb, ne-eqb}
 use borrow.Author.Needs.{needs}
 use Rattle.bounds.proofs.reader.entry_of.Statement.{statement}
@@ -15,7 +15,7 @@ unfold-requires : tie.Need-unfold-requires
 unfold-requires c κs = search needs
 
 returns-2 : tie.Need-returns-2
-returns-2 c = rw (same-word _ (c .«unfold» .ok), ne-eqb _ _ (c .before .if1 .left)) (c .«unfold» .ensures)
+returns-2 c = rw (back (c .«unfold» .ok), ne-eqb _ _ (c .before .if1 .left)) (c .«unfold» .ensures)
 
 pub entry-of-spec : {M : Type 1} → statement M
 entry-of-spec = tie.close (tie.spec returns sub-unfold unfold-requires returns-2)

@@ -19,8 +19,6 @@ use Rattle.bounds.specs.Bounds.{boundsForm}
 use borrow.Author.Needs.{needs}
 use Rattle.bounds.proofs.reader.read_bounds.Statement.{statement}
 use Rattle.bounds.proofs.reader.read_bounds.Tie as tie
-use Rattle.codec.proofs.Number.why.Reads as Number-why-reads
-use Rattle.codec.proofs.Step.why.Reads as Step-why-reads
 
 read-below-requires : tie.Need-read-below-requires
 read-below-requires c κs = search needs

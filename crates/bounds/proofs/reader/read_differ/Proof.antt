@@ -1,4 +1,4 @@
-use Rattle.codec.proofs.FoldLaws.{same-word}
+use Rattle.numbers.proofs.WordLaws.{back}
 use mathlib.Core.Bool.{cond}
 use mathlib.Core.List.{List}
 use mathlib.Core.Path.{_≡_, refl, ap, _∙_}
@@ -137,7 +137,7 @@ returns-5 c =
     let y = valued (c .before .before .before .before .before .before .before .before .before .read-below2 .ensures)
     (c .before .before .before .before .before .before .before .b .given .1) in
     let k = valued (c .before .before .before .before .read-below3 .ensures) (c .before .before .d .given .1) in
-    rw (same-word _ (c .«unfold» .ok), c .«unfold» .ensures)
+    rw (back (c .«unfold» .ok), c .«unfold» .ensures)
     (giving (asked x
     (asked y (two-clocks (c .before .before .before .before .before .if1 .left) (asked k finished)))))
 

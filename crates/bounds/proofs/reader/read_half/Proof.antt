@@ -1,11 +1,10 @@
-use Rattle.codec.proofs.FoldLaws.{same-word}
+use Rattle.numbers.proofs.WordLaws.{back}
 use mathlib.Core.Path.{ap, _∙_}
 use Rattle.codec.specs.Answers.{whyNumber}
 use Rattle.codec.proofs.FormLaws.{blank-beside}
 use Prim.Native.Nat.{_-_}
 use lib.IntN.{pos}
 use lib.ListN.{drop}
-use native.Mathlib.Omega.{arith}
 use Rattle.codec.proofs.ArrayLaws.{Filling, fill-start, fill-step, fill-stop, fill-done}
 use Rattle.codec.proofs.FormLaws.{asked, unasked, valued, unvalued, finished, found-below, refusing, giving}
 use Rattle.bounds.specs.Bounds.{entryForm}
@@ -64,7 +63,7 @@ loop-again c =
     let read =
     asked (valued (c .before .before .before .before .read-below .ensures) (c .before .before .n .given .1))
     finished in
-    rw (same-word _ (c .entry-of .ok), c .entry-of .ensures)
+    rw (back (c .entry-of .ok), c .entry-of .ensures)
     (fill-step (c .before .before .before .before .before .before .loop .inv)
     (c .before .before .before .before .before .before .before .before .pre)
     (c .before .before .before .before .before .loop-test .taken) read)

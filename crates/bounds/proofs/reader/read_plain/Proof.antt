@@ -1,5 +1,4 @@
-use Prim.Native.Nat.{_<_}
-use Rattle.codec.proofs.FoldLaws.{half-is}
+use Rattle.numbers.proofs.WordLaws.{word-is}
 use mathlib.Core.Path.{ap, _∙_}
 use Rattle.codec.specs.Answers.{whyNumber}
 use Rattle.codec.proofs.FormLaws.{asked, unasked, valued, unvalued, finished, found-below, refusing, giving}
@@ -74,7 +73,7 @@ returns-3 : tie.Need-returns-3
 unfolding plainForm
 returns-3 c =
     let k = valued (c .before .before .before .read-below2 .ensures) (c .before .b .given .1) in
-    rw (half-is (c .before .b .given .0 .0) (omega (arith, found-below k)))
+    rw (word-is (c .before .b .given .0 .0) (omega (arith, found-below k)))
     (giving (asked
     (valued (c .before .before .before .before .before .before .before .read-below .ensures)
     (c .before .before .before .before .before .a .given .1)) (asked k finished)))

@@ -1,6 +1,6 @@
 use native.Mathlib.Omega.{arith}
 use Rattle.codec.proofs.WriteLaws.{wrote-then, room-first, room-next}
-use Rattle.codec.proofs.FoldLaws.{same-word}
+use Rattle.numbers.proofs.WordLaws.{back}
 use Rattle.bounds.proofs.LimitLaws.{abs-small, fold-small}
 use borrow.Author.Needs.{needs}
 use Rattle.bounds.proofs.writer.write_differ.Statement.{statement}
@@ -9,7 +9,7 @@ use Rattle.bounds.proofs.writer.write_differ.Tie as tie
 fold-requires : tie.Need-fold-requires
 fold-requires c κs =
     let fit = c .before .before .pre .0 .2 in
-    rw (same-word _ (c .struct-told .given .1 .1 .1 .0 .1)) (abs-small _ (fit .least) (fit .most))
+    rw (back (c .struct-told .given .1 .1 .1 .0 .1)) (abs-small _ (fit .least) (fit .most))
 
 write-number-requires : tie.Need-write-number-requires
 write-number-requires c κs =
@@ -45,7 +45,7 @@ write-number-requires-4 c κs =
     rw (
       c .before .before .before .before .before .before .before .before .before .before .before .before .before
           .fold .ensures,
-      same-word _
+      back
           (c .before .before .before .before .before .before .before .before .before .before .before .before
           .before .before .struct-told .given .1 .1 .1 .0 .1),
     )
@@ -59,9 +59,9 @@ returns c =
     let k = rw (
       c .before .before .before .before .before .before .before .before .before .before .before .before .before
           .before .before .before .fold .ensures,
-      same-word
-          (c .before .before .before .before .before .before .before .before .before .before .before .before
-          .before .before .before .before .before .before .before .args .b .k)
+      back
+          {z = c .before .before .before .before .before .before .before .before .before .before .before .before
+          .before .before .before .before .before .before .before .args .b .k}
           (c .before .before .before .before .before .before .before .before .before .before .before
           .before .before .before .before .before .before .struct-told .given .1 .1 .1 .0 .1),
     ) at

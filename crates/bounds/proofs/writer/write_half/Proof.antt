@@ -1,4 +1,3 @@
-use Rattle.numbers.specs.Words.{number}
 use Rattle.bounds.specs.Limits.{EntryLimits}
 use Rattle.bounds.proofs.LimitLaws.{entry-small}
 use Prim.Native.Nat.{_-_, _≤_}
@@ -7,7 +6,7 @@ use lib.IntN.{ℤ, pos}
 use lib.ListN.{length, getD}
 use Rattle.codec.proofs.WriteLaws.{Storing, store-start, store-room, store-more, store-done, kept-long}
 use Rattle.codec.proofs.PackedLaws.{check-each}
-use Rattle.codec.proofs.FoldLaws.{same-word}
+use Rattle.numbers.proofs.WordLaws.{back}
 use Rattle.bounds.specs.Written.{entryBytes}
 use borrow.Author.Needs.{needs}
 use Rattle.bounds.proofs.writer.write_half.Statement.{statement}
@@ -38,7 +37,7 @@ fits c =
     check-each (pos 0) w (c .before .loop .i) (omega (arith, w .few)) .used (c .loop-test .taken)
 
 entry-number-requires : tie.Need-entry-number-requires Inv-loop μ-loop
-entry-number-requires c κs = rw (same-word _ (c .entry-number-arg .given)) (fits (c .before))
+entry-number-requires c κs = rw (back (c .entry-number-arg .given)) (fits (c .before))
 
 write-number-requires : tie.Need-write-number-requires Inv-loop μ-loop
 unfolding entryBytes
@@ -47,7 +46,7 @@ write-number-requires c κs =
     let long : c .before .before .before .before .before .before .args .count ≤ length
     (c .before .before .before .before .before .before .args .t3) =
     omega (arith, s .pre .0 .few, s .pre .0 .long) in
-    rw (c .before .entry-number .ensures, same-word _ (c .before .before .entry-number-arg .given)) (
+    rw (c .before .entry-number .ensures, back (c .before .before .entry-number-arg .given)) (
       omega (arith, entry-small _ (fits (c .before .before .before))),
       store-room
           (c .before .before .before .before .loop .inv) (pos 0) long (c .before .before .before .loop-test .taken)
@@ -70,7 +69,7 @@ loop-again c =
     let wrote =
     rw (
       c .before .before .before .before .entry-number .ensures,
-      same-word _
+      back
           (c .before .before .before .before .before .entry-number-arg .given),
     ) at
     (c .before .before .write-number .ensures) in

@@ -1,6 +1,6 @@
 use native.Mathlib.Omega.{arith}
 use Rattle.codec.proofs.WriteLaws.{wrote-then, room-first, room-next}
-use Rattle.codec.proofs.FoldLaws.{same-word}
+use Rattle.numbers.proofs.WordLaws.{back}
 use Rattle.bounds.proofs.LimitLaws.{not-negative}
 use borrow.Author.Needs.{needs}
 use Rattle.bounds.proofs.writer.write_plain.Statement.{statement}
@@ -23,7 +23,7 @@ cast-write-number : tie.Need-cast-write-number
 cast-write-number c =
     let fit = c .before .before .before .before .before .before .before .before .before .before .before .pre .0 .2 in
     let small = not-negative _ (fit .least) (fit .most) in
-    rw (same-word _
+    rw (back
     (c .before .before .before .before .before .before .before .before .before .struct-told .given .1 .1 .1 .0
     .1)) (small .0, small .1)
 
@@ -33,7 +33,7 @@ write-number-requires-3 c κs =
     let small = not-negative _ (p .0 .2 .least) (p .0 .2 .most) in
     let room = room-next _ _ (c .before .before .before .write-number2 .ensures)
     (room-next _ _ (c .before .before .before .before .before .before .before .write-number .ensures) (p .1)) in
-    rw (same-word _
+    rw (back
     (c .before .before .before .before .before .before .before .before .before .struct-told .given .1 .1 .1 .0
     .1)) (omega (arith, small .2), room)
 
@@ -43,7 +43,7 @@ same-length c = search needs
 returns : tie.Need-returns
 returns c =
     let k = rw
-    (same-word _
+    (back
     (c .before .before .before .before .before .before .before .before .before .before .before .before
     .struct-told .given .1 .1 .1 .0 .1)) at (c .before .before .write-number3 .ensures) in
     wrote-then

@@ -4,8 +4,8 @@ use Prim.Native.Nat.{ℕ, _+_, _*_, _≤_, _<_, _-_}
 use native.Mathlib.Nat.{le-antisymm}
 use native.Mathlib.Numerals.{add-one as plus-one}
 use native.Mathlib.Omega.{arith}
-use lib.ListN.{length, take}
-use Rattle.algebra.specs.Vectors.{vectors, count}
+use lib.ListN.{take}
+use Rattle.algebra.specs.Vectors.{vectors}
 use Rattle.making.specs.Change.{changedBy}
 use Rattle.making.specs.Work.{Added}
 use Rattle.sets.proofs.RowLaws.{row-inside, row-few, part-is, part-long}

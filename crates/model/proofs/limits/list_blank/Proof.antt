@@ -1,5 +1,4 @@
 use mathlib.Core.Path.{ap}
-use native.Mathlib.Omega.{arith}
 use Rattle.numbers.proofs.Tells.{never}
 use Rattle.bounds.specs.declared.Bounds.{Bounds}
 use Rattle.model.proofs.BlankLaws.{tells-blank}

@@ -26,20 +26,18 @@ returns-7 c = never (λ w. omega (arith, c .if7 .taken, w .target))
 
 returns-8 : tie.Need-returns-8
 returns-8 c =
-    let some-clocks =
-    c .before .before .before .before .before .before .before .before .before .before .before .before .before
-    .if1 .left in
-    let some-locations = c .before .before .before .before .before .before .before .before .before .if3 .left in
+    let some-clocks = c .before .before .before .before .before .before .if1 .left in
+    let some-locations = c .before .before .before .before .if3 .left in
     means
     (λ d.
     record {
       some-clocks = omega arith;
-      clocks = c .before .before .before .before .before .before .before .before .before .before .before .if2 .left;
+      clocks = c .before .before .before .before .before .if2 .left;
       some-locations = omega arith;
-      locations = c .before .before .before .before .before .before .before .if4 .left;
-      edges = c .before .before .before .before .before .if5 .left;
-      initial = c .before .before .before .if6 .left;
-      target = c .before .if7 .left;
+      locations = c .before .before .before .if4 .left;
+      edges = c .before .before .if5 .left;
+      initial = c .before .if6 .left;
+      target = c .if7 .left;
       depth = d;
     })
     (λ w. w .depth)

@@ -17,8 +17,6 @@ use Rattle.model.specs.Models.{edgeForm}
 use borrow.Author.Needs.{needs}
 use Rattle.model.proofs.reader.read_edge.Statement.{statement}
 use Rattle.model.proofs.reader.read_edge.Tie as tie
-use Rattle.codec.proofs.Number.why.Reads as Number-why-reads
-use Rattle.codec.proofs.Step.why.Reads as Step-why-reads
 
 read-below-requires : tie.Need-read-below-requires
 read-below-requires c κs = search needs

@@ -10,15 +10,12 @@ use Rattle.codec.proofs.FormLaws.{
   stepped,
   unstepped,
   finished,
-  refusing,
-  giving,
 }
 use Rattle.model.specs.Models.{goalForm}
 use borrow.Author.Needs.{needs}
+use Rattle.model.proofs.SurveyLaws.{refusing-goal, giving-goal}
 use Rattle.model.proofs.reader.read_goal.Statement.{statement}
 use Rattle.model.proofs.reader.read_goal.Tie as tie
-use Rattle.codec.proofs.Number.why.Reads as Number-why-reads
-use Rattle.codec.proofs.Step.why.Reads as Step-why-reads
 
 read-below-requires : tie.Need-read-below-requires
 read-below-requires c κs = search needs
@@ -39,7 +36,7 @@ returns : tie.Need-returns
 unfolding goalForm
 returns c =
     let why = c .before .why .ensures ∙ ap whyNumber (c .before .before .enum-told .given .1) in
-    refusing (unasked
+    refusing-goal _ (unasked
     (unvalued (c .before .before .before .before .read-below .ensures)
     (c .before .before .enum-told .given .1))) why (c .refused-goal .ensures)
 
@@ -67,7 +64,7 @@ returns-2 c =
     let why = c .before .why2 .ensures ∙ ap whyStep (c .before .before .enum-told2 .given .1) in
     let list = unstepped (c .before .before .before .before .before .read-bounds .ensures)
     (c .before .before .enum-told2 .given .1) in
-    refusing (asked target (stops _ _ list)) why (c .refused-goal2 .ensures)
+    refusing-goal _ (asked target (stops _ _ list)) why (c .refused-goal2 .ensures)
 
 read-below-requires-2 : tie.Need-read-below-requires-2
 read-below-requires-2 c κs = search needs
@@ -98,7 +95,7 @@ returns-3 c =
     let why = c .before .why3 .ensures ∙ ap whyNumber (c .before .before .enum-told3 .given .1) in
     let depth = unvalued (c .before .before .before .before .read-below2 .ensures)
     (c .before .before .enum-told3 .given .1) in
-    refusing (asked target (after _ _ list (unasked depth))) why (c .refused-goal3 .ensures)
+    refusing-goal _ (asked target (after _ _ list (unasked depth))) why (c .refused-goal3 .ensures)
 
 returns-4 : tie.Need-returns-4
 unfolding goalForm
@@ -110,7 +107,7 @@ returns-4 c =
     let list = stepped (c .before .before .before .before .before .before .before .before .read-bounds .ensures)
     (c .before .before .before .before .before .step .given .1) in
     let depth = valued (c .before .before .before .read-below2 .ensures) (c .before .d .given .1) in
-    giving (asked target (after _ _ list (asked depth finished)))
+    giving-goal (asked target (after _ _ list (asked depth finished))) list
 
 pub read-goal-spec : {M : Type 1} → statement M
 read-goal-spec =

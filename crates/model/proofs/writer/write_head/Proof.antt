@@ -7,12 +7,12 @@ use Rattle.model.proofs.writer.write_head.Tie as tie
 write-number-requires : tie.Need-write-number-requires
 write-number-requires c κs =
     let p = c .before .before .pre in
-    (omega (arith, p .0 .numbers .clocks), room-first _ _ (p .1))
+    (omega (arith, p .0 .0), room-first _ _ (p .1))
 
 write-number-requires-2 : tie.Need-write-number-requires-2
 write-number-requires-2 c κs =
     let p = c .before .before .before .before .before .before .pre in (
-      omega (arith, p .0 .numbers .locations),
+      omega (arith, p .0 .1),
       room-first _ _
           (room-next _ _ (c .before .before .before .write-number .ensures) (p .1)),
     )
@@ -22,7 +22,7 @@ write-number-requires-3 c κs =
     let p = c .before .before .before .before .before .before .before .before .before .before .pre in
     let room = room-next _ _ (c .before .before .before .write-number2 .ensures)
     (room-next _ _ (c .before .before .before .before .before .before .before .write-number .ensures) (p .1)) in
-    (omega (arith, p .0 .numbers .edges), room-first _ _ room)
+    (omega (arith, p .0 .2), room-first _ _ room)
 
 write-number-requires-4 : tie.Need-write-number-requires-4
 write-number-requires-4 c κs =
@@ -32,7 +32,7 @@ write-number-requires-4 c κs =
     (room-next _ _
     (c .before .before .before .before .before .before .before .before .before .before .before .write-number
     .ensures) (p .1)) in (
-      omega (arith, p .0 .numbers .initial, p .0 .numbers .locations),
+      omega (arith, p .0 .3, p .0 .1),
       room-next _ _
           (c .before .before .before .write-number3 .ensures) room,
     )

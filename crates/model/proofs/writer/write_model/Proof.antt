@@ -8,8 +8,9 @@ use Rattle.model.proofs.writer.write_model.Tie as tie
 write-head-requires : tie.Need-write-head-requires
 unfolding modelBytes
 write-head-requires c κs =
-    let p = c .before .before .before .before .pre in
-    (p .0, room-first _ _ (p .1))
+    let p = c .before .before .before .before .before .pre in
+    let m = p .0 .numbers in
+    ((m .clocks, m .locations, m .edges, m .initial), room-first _ _ (p .1))
 
 cast-write-invariants : tie.Need-cast-write-invariants
 cast-write-invariants c = search needs
@@ -20,7 +21,7 @@ write-invariants-requires c κs =
     let p = c .before .before .before .before .before .before .before .before .before .pre in (
       (p .0 .numbers .clocks, p .0 .invariants),
       room-first _ _
-          (room-next _ _ (c .before .before .before .before .write-head .ensures) (p .1)),
+          (room-next _ _ (c .before .before .before .write-head .ensures) (p .1)),
     )
 
 cast-write-edges : tie.Need-cast-write-edges
@@ -29,25 +30,25 @@ cast-write-edges c = search needs
 write-edges-requires : tie.Need-write-edges-requires
 unfolding modelBytes
 write-edges-requires c κs =
-    let p = c .before .before .before .before .before .before .before .before .before .before .before .before
-    .before .before .pre in
+    let p = c .before .before .before .before .before .before .before .before .before .before .before .before .before
+    .before .pre in
     let room = room-next _ _ (c .before .before .before .before .write-invariants .ensures)
-    (room-next _ _
-    (c .before .before .before .before .before .before .before .before .before .write-head .ensures) (p .1))
-    in
+    (room-next _ _ (c .before .before .before .before .before .before .before .before .write-head .ensures) (p .1)) in
     ((p .0 .numbers .clocks, p .0 .numbers .locations, p .0 .edges), room-first _ _ room)
 
 write-goal-requires : tie.Need-write-goal-requires
 unfolding modelBytes
 write-goal-requires c κs =
-    let p = c .before .before .before .before .before .before .before .before .before .before .before .before
-    .before .before .before .before .before .before .pre in
-    let room =
-    room-next _ _ (c .before .before .before .before .before .before .before .before .write-invariants .ensures)
-    (room-next _ _
-    (c .before .before .before .before .before .before .before .before .before .before .before .before
-    .before .write-head .ensures) (p .1)) in
-    (p .0, room-next _ _ (c .before .before .before .write-edges .ensures) room)
+    let p = c .before .before .before .before .before .before .before .before .before .before .before .before .before
+    .before .before .before .before .before .pre in
+    let m = p .0 .numbers in
+    let room = room-next _ _ (c .before .before .before .before .before .before .before .before .write-invariants
+    .ensures)
+    (room-next _ _ (c .before .before .before .before .before .before .before .before .before .before .before .before
+    .write-head .ensures) (p .1)) in (
+      (m .clocks, omega (arith, m .target, m .locations), p .0 .list, m .depth),
+      room-next _ _ (c .before .before .before .write-edges .ensures) room,
+    )
 
 same-length : tie.Need-same-length
 same-length c = search needs
@@ -56,11 +57,11 @@ returns : tie.Need-returns
 unfolding modelBytes
 returns c =
     wrote-then
-    (c .before .before .before .before .before .before .before .before .before .before .before .before .before
-    .before .before .before .write-head .ensures)
+    (c .before .before .before .before .before .before .before .before .before .before .before .before .before .before
+    .before .write-head .ensures)
     (wrote-then
-    (c .before .before .before .before .before .before .before .before .before .before .before
-    .write-invariants .ensures)
+    (c .before .before .before .before .before .before .before .before .before .before .before .write-invariants
+    .ensures)
     (wrote-then (c .before .before .before .before .before .before .write-edges .ensures)
     (c .before .before .write-goal .ensures)))
 

@@ -1,41 +1,29 @@
-use mathlib.Core.Path.{_≡_, sym, _∙_, ap}
+use mathlib.Core.Path.{sym}
 use native.Mathlib.Omega.{arith}
-use Rattle.sets.specs.Rules.{generated}
 use Rattle.sets.specs.Falls.{allUsed}
-use Rattle.sets.proofs.FallLaws.{nowhere, short-generated}
+use Rattle.sets.proofs.FallLaws.{blank-long, gathered-blank, ends-generated}
 use borrow.Author.Needs.{needs}
 use Rattle.sets.proofs.against.generates.Statement.{statement}
 use Rattle.sets.proofs.against.generates.Tie as tie
 
-slice-aggregate-short : tie.Need-slice-aggregate-short
-slice-aggregate-short c = search needs
+array-borrow-prefix-reached : tie.Need-array-borrow-prefix-reached
+array-borrow-prefix-reached c = search needs
 
-short-requires : tie.Need-short-requires
-unfolding allUsed
-short-requires c κs = c .before .pre
+slice-aggregate-gather-all : tie.Need-slice-aggregate-gather-all
+slice-aggregate-gather-all c = sym (blank-long _ _ (c .before .pre .few))
 
-enum-told : tie.Need-enum-told
-enum-told c = search needs
-
-enum-told-2 : tie.Need-enum-told-2
-enum-told-2 c = search needs
-
--- what the search for a short entry says of the vector
-found : (c : tie.After-short) → let s = c .before .before .args in
-    generated (s .list .now) (s .m) (s .x .now) ≡ nowhere (c .short .result)
-unfolding allUsed
-found c =
-    let d = c .before .before in
-    short-generated _ (d .args .m) _ (c .short .result) (omega (arith, d .pre .flags)) (c .short .ensures)
+gather-all-requires : tie.Need-gather-all-requires
+gather-all-requires c κs = let p = c .before .pre in (p, gathered-blank _ _ _ (p .few))
 
 returns : tie.Need-returns
-returns c = sym (found (c .before .before) ∙ ap nowhere (c .enum-told2 .given .1))
-
-returns-2 : tie.Need-returns-2
-returns-2 c = sym (found (c .before .before) ∙ ap nowhere (c .enum-told .given .1))
+unfolding allUsed
+returns c =
+    let g = c .before in
+    let d = g .before .before in
+    ends-generated _ (d .args .m) _ _ _ (omega (arith, d .pre .flags)) (g .gather-all .ensures)
 
 -- `generates` meets its contract
 pub generates-spec : {M : Type 1} → statement M
 generates-spec =
     tie.close
-    (tie.spec slice-aggregate-short short-requires enum-told enum-told-2 returns returns-2)
+    (tie.spec array-borrow-prefix-reached slice-aggregate-gather-all gather-all-requires returns)

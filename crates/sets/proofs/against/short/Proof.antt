@@ -1,13 +1,10 @@
-use mathlib.Core.Path.{_≡_, sym, _∙_, ap, subst}
-use mathlib.Core.List.{List, _++_}
+use mathlib.Core.Path.{sym, _∙_, ap}
 use native.Mathlib.Omega.{arith}
-use lib.IntN.{ℤ}
-use lib.ListN.{length, drop, take, replicate, length-append}
-use lib.Seq.{take-at}
-use Rattle.numbers.specs.Words.{mark}
-use Rattle.numbers.specs.Places.{entries}
-use Rattle.sets.specs.Falls.{Falls}
-use Rattle.sets.proofs.FallLaws.{blank-long, gathered-blank, falls-ext}
+use lib.IntN.{pos}
+use lib.ListN.{List·getD-append}
+use Rattle.numbers.specs.Words.{number}
+use Rattle.numbers.proofs.WordLaws.{back}
+use Rattle.sets.proofs.FallLaws.{blank-long, gathered-blank, falls-nowhere, falls-at}
 use borrow.Author.Needs.{needs}
 use Rattle.sets.proofs.against.short.Statement.{statement}
 use Rattle.sets.proofs.against.short.Tie as tie
@@ -16,38 +13,30 @@ array-borrow-prefix-reached : tie.Need-array-borrow-prefix-reached
 array-borrow-prefix-reached c = search needs
 
 slice-aggregate-gather : tie.Need-slice-aggregate-gather
-slice-aggregate-gather c = let d = c .before .before in sym (blank-long _ _ (d .pre .few))
+slice-aggregate-gather c = sym (blank-long _ _ (c .before .before .pre .few))
 
 gather-requires : tie.Need-gather-requires
-gather-requires c κs =
-    let d = c .before .before in
-    (d .pre, gathered-blank _ _ _ (d .pre .few))
-
--- the lent part comes back in front
-front : (c : tie.After-gather) → let w = length (c .before .before .before .args .x .now) in
-    take w (c .gather .last .0 ++ drop w (replicate 7 mark)) ≡ c .gather .last .0
-front c = take-at (c .gather .last .0) _ _ (c .gather .ensures .long)
-
-array-share-prefix-reached : tie.Need-array-share-prefix-reached
-array-share-prefix-reached c = simp length-append (omega (arith, c .before .gather .ensures .long))
-
-slice-aggregate-first : tie.Need-slice-aggregate-first
-slice-aggregate-first c =
-    let g = c .before .before in
-    sym (ap length (front g) ∙ g .gather .ensures .long)
-
-first-requires : tie.Need-first-requires
-first-requires c κs =
-    let g = c .before .before in
-    ap length (front g) ∙ g .gather .ensures .long
+gather-requires c κs = let p = c .before .before .pre in (p, gathered-blank _ _ _ (p .few))
 
 returns : tie.Need-returns
 returns c =
+    let g = c .before .before in
+    falls-nowhere _ _ _ _ _ _ (g .gather .ensures) (omega arith)
+
+mul-r : tie.Need-mul-r
+mul-r c = search needs
+
+array-copy-out-r : tie.Need-array-copy-out-r
+array-copy-out-r c = search needs
+
+returns-2 : tie.Need-returns-2
+returns-2 c =
     let g = c .before .before .before in
-    let s = c .before .before .before .before .before .before .args in
-    falls-ext _ (entries (g .gather .last .0)) _ _ (c .first .result) (λ j l. g .gather .ensures .right j l)
-    (subst (λ (v : List ℤ). Falls (length (s .x .now)) (entries v) (entries (s .x .now)) (c .first .result)) (front g)
-    (c .first .ensures))
+    let e = g .gather .ensures in
+    let i = e .inside in
+    falls-at _ _ _ _ _ _ e _ (omega arith)
+    (ap number (back (c .r .given)
+    ∙ List·getD-append (g .gather .last .0) _ (pos 0) (g .gather .result) (omega (arith, e .long))))
 
 -- `short` meets its contract
 pub short-spec : {M : Type 1} → statement M
@@ -57,7 +46,7 @@ short-spec =
     array-borrow-prefix-reached
     slice-aggregate-gather
     gather-requires
-    array-share-prefix-reached
-    slice-aggregate-first
-    first-requires
-    returns)
+    returns
+    mul-r
+    array-copy-out-r
+    returns-2)

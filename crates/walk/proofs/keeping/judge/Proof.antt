@@ -4,10 +4,6 @@ use Rattle.walk.proofs.KeepingLaws.{goes-on, judge-empty, judge-covered
 use mir.Facts.{toZ-ofZ}
 use Rattle.walk.proofs.keeping.judge.Statement.{statement}
 use Rattle.walk.proofs.keeping.judge.Tie as tie
-use Rattle.walk.proofs.keeping.judge.Reads as reads
-use Rattle.walk.proofs.keeping.judge.Lts as lts
-use Rattle.area.proofs.covered.Reads as covered-reads
-use Rattle.walk.proofs.keeping.store.Reads as store-reads
 
 returns : tie.Need-returns
 returns c =

@@ -1,8 +1,6 @@
 use borrow.Author.Needs.{needs}
 use Rattle.walk.proofs.keeping.met.Statement.{statement}
 use Rattle.walk.proofs.keeping.met.Tie as tie
-use Rattle.walk.proofs.keeping.met.Reads as reads
-use Rattle.walk.proofs.keeping.met.Lts as lts
 
 enum-told : tie.Need-enum-told
 enum-told c = search needs

@@ -3,10 +3,6 @@ use Rattle.walk.proofs.KeepingLaws.{keepable, store-does, store-full}
 use mir.Facts.{toZ-ofZ}
 use Rattle.walk.proofs.keeping.store.Statement.{statement}
 use Rattle.walk.proofs.keeping.store.Tie as tie
-use Rattle.walk.proofs.keeping.store.Reads as reads
-use Rattle.walk.proofs.keeping.store.Lts as lts
-use Rattle.area.proofs.keep.Reads as keep-reads
-use Rattle.walk.proofs.keeping.tested.Reads as tested-reads
 
 keep-requires : tie.Need-keep-requires
 keep-requires c κs =

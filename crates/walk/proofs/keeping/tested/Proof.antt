@@ -2,10 +2,6 @@ use borrow.Author.Needs.{needs}
 use Rattle.walk.proofs.KeepingLaws.{tested-meets, tested-not}
 use Rattle.walk.proofs.keeping.tested.Statement.{statement}
 use Rattle.walk.proofs.keeping.tested.Tie as tie
-use Rattle.walk.proofs.keeping.tested.Reads as reads
-use Rattle.walk.proofs.keeping.tested.Lts as lts
-use Rattle.steps.proofs.meets.Reads as meets-reads
-use Rattle.walk.proofs.keeping.met.Reads as met-reads
 
 meets-requires : tie.Need-meets-requires
 meets-requires c κs = search needs

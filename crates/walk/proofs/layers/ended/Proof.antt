@@ -1,8 +1,6 @@
 use borrow.Author.Needs.{needs}
 use Rattle.walk.proofs.layers.ended.Statement.{statement}
 use Rattle.walk.proofs.layers.ended.Tie as tie
-use Rattle.walk.proofs.layers.ended.Reads as reads
-use Rattle.walk.proofs.layers.ended.Lts as lts
 
 enum-known-r : tie.Need-enum-known-r
 enum-known-r c = search needs

@@ -8,15 +8,9 @@ use Rattle.runs.specs.Rule.{following}
 use Rattle.model.specs.Plain.{edgeOf, boundsOf}
 use Rattle.area.specs.Records.{stateIn}
 use Rattle.walk.specs.Control.{walkIn, aimed, formedTo}
-use Rattle.area.proofs.KeepLaws.{word-is}
+use Rattle.numbers.proofs.WordLaws.{word-is}
 use Rattle.walk.proofs.layers.form.Statement.{statement}
 use Rattle.walk.proofs.layers.form.Tie as tie
-use Rattle.walk.proofs.layers.form.Reads as reads
-use Rattle.walk.proofs.layers.form.Lts as lts
-use Rattle.area.proofs.locate.Reads as locate-reads
-use Rattle.steps.proofs.candidate.Reads as candidate-reads
-use Rattle.walk.proofs.keeping.judge.Reads as judge-reads
-use Rattle.walk.proofs.layers.stopped.Reads as stopped-reads
 
 -- the start, from where the candidate was made
 abbrev first : tie.After-known-told → tie.Start

@@ -1,8 +1,6 @@
 use borrow.Author.Needs.{needs}
 use Rattle.walk.proofs.layers.stopped.Statement.{statement}
 use Rattle.walk.proofs.layers.stopped.Tie as tie
-use Rattle.walk.proofs.layers.stopped.Reads as reads
-use Rattle.walk.proofs.layers.stopped.Lts as lts
 
 enum-told : tie.Need-enum-told
 enum-told c = search needs

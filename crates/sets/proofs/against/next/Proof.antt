@@ -1,25 +1,23 @@
-use mathlib.Core.Path.{ap}
 use Prim.Native.Nat.{ℕ, _≤_, _<_, _-_}
 use native.Mathlib.Omega.{arith}
-use borrow.Author.Count.{below-more, below-none}
+use borrow.Author.Count.{below-more}
 use lib.ListN.{length}
 use Rattle.numbers.specs.Numbers.{_≼_}
-use Rattle.numbers.specs.Words.{number}
 use Rattle.numbers.specs.Places.{entries}
-use Rattle.numbers.proofs.WordLaws.{back}
 use Rattle.sets.proofs.FallLaws.{place-short, place-enough}
 use borrow.Author.Needs.{needs}
-use Rattle.sets.proofs.against.first.Statement.{statement}
-use Rattle.sets.proofs.against.first.Tie as tie
+use Rattle.sets.proofs.against.next.Statement.{statement}
+use Rattle.sets.proofs.against.next.Tie as tie
 
 abbrev Inv-loop : tie.InvT-loop
-Inv-loop reached x j₀ j = (j ≤ length x) × ((k : ℕ) → k < j → entries x k ≼ entries reached k)
+Inv-loop reached from x j₀ j =
+    (from ≤ j) × (j ≤ length x) × ((k : ℕ) → k < j → from ≤ k → entries x k ≼ entries reached k)
 
 abbrev μ-loop : tie.MeasureT-loop
-μ-loop reached x j₀ j = length x - j
+μ-loop reached from x j₀ j = length x - j
 
 loop-holds : tie.Need-loop-holds Inv-loop μ-loop
-loop-holds c = (omega arith, below-none _)
+loop-holds c = (omega arith, omega arith, λ k l f. absurd (omega arith))
 
 mul-r : tie.Need-mul-r Inv-loop μ-loop
 mul-r c = search needs
@@ -35,12 +33,12 @@ shared-slice-copy-out-if1 c = search needs
 
 returns : tie.Need-returns Inv-loop μ-loop
 returns c =
-    let d = c .before .before .before .before in
+    let l = c .before .before .before .before .loop in
     record {
-      inside = c .before .before .before .loop-test .taken;
-      short = place-short _ _ (c .before .before .r .given) (c .before .if12 .given) (c .if1 .taken);
-      reached = ap number (back (c .before .before .r .given));
-      before = d .loop .inv .1;
+      onward = omega arith;
+      inside = omega arith;
+      passed = λ k f b. l .inv .2 k b f;
+      short = λ b. place-short _ _ (c .before .before .r .given) (c .before .if12 .given) (c .if1 .taken);
     }
 
 add-j : tie.Need-add-j Inv-loop μ-loop
@@ -51,18 +49,26 @@ loop-less c = search needs
 
 loop-again : tie.Need-loop-again Inv-loop μ-loop
 loop-again c =
-    let d = c .before .before .before .before in (
+    let l = c .before .before .before .before .loop in (
       omega arith,
-      below-more _ (d .loop .j) (d .loop .inv .1)
-          (place-enough _ _ (c .before .before .r .given) (c .before .if12 .given) (c .if1 .left)),
+      omega arith,
+      below-more _ (l .j) (l .inv .2)
+          (λ f. place-enough _ _ (c .before .before .r .given) (c .before .if12 .given) (c .if1 .left)),
     )
 
 returns-2 : tie.Need-returns-2 Inv-loop μ-loop
-returns-2 c = λ j l. c .before .loop .inv .1 j (omega arith)
+returns-2 c =
+    let l = c .before .loop in
+    record {
+      onward = omega arith;
+      inside = omega arith;
+      passed = λ k f b. l .inv .2 k b f;
+      short = λ b. absurd (omega arith);
+    }
 
--- `first` meets its contract
-pub first-spec : {M : Type 1} → statement M
-first-spec =
+-- `next` meets its contract
+pub next-spec : {M : Type 1} → statement M
+next-spec =
     tie.close
     (tie.spec
     Inv-loop
