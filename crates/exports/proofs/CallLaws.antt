@@ -18,6 +18,7 @@ use Rattle.sets.specs.Demands.{Input}
 use Rattle.making.specs.declared.Made.{Made}
 use Rattle.making.specs.declared.Made.the-variants.{Vectors, Refused}
 use Rattle.making.specs.Answers.{Makes}
+use Rattle.making.specs.Calls.{Resets}
 use Rattle.codec.specs.Arrays.{AreBytes}
 use Rattle.codec.specs.Answers.{whyStep}
 use Rattle.codec.specs.declared.Step.{Step}
@@ -72,6 +73,12 @@ printed-fits bytes are area text r area′ text′ v =
     by : (b : Bool) → printedSaid r ≡ cond b refuses prints .said → hi (saidNumber (printedSaid r)) ≤ 33664
     by true e = rw e (omega arith)
     by false e = rw e (omega (arith, text-fits bytes are area))
+
+-- ---- values
+-- a reset to the same value
+pub resets-same : (n : ℕ) (l : List ℤ) (i : ℕ) (c d : ℤ) (before : List ℤ) (a : Made) (after : List ℤ)
+    → Resets n l i c before a after → c ≡ d → Resets n l i d before a after
+resets-same n l i c d before a after r e = rw (← e) r
 
 -- ---- bytes read and written back
 -- the model that was read

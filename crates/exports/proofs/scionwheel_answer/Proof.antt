@@ -3,6 +3,7 @@ use Prim.Native.Nat.{_<_}
 use native.Mathlib.Omega.{arith}
 use Rattle.codec.proofs.PackedLaws.{all-of}
 use Rattle.exports.proofs.CallLaws.{printed-fits}
+use Rattle.exports.proofs.NumberLaws.{handed}
 use Rattle.exports.proofs.scionwheel_answer.Statement.{statement}
 use Rattle.exports.proofs.scionwheel_answer.Tie as tie
 
@@ -23,7 +24,13 @@ same-length-2 : tie.Need-same-length-2
 same-length-2 c = search needs
 
 returns : tie.Need-returns
-returns c = search needs
+returns c =
+    let x = c .before .before .before .before in
+    record {
+      answer = x .answer .result;
+      gives = x .answer .ensures;
+      is = handed (c .printed .result) _ (c .printed .ok) (c .printed .ensures);
+    }
 
 pub scionwheel-answer-spec : {M : Type 1} → statement M
 scionwheel-answer-spec =

@@ -1,6 +1,7 @@
 use borrow.Author.Needs.{needs}
 use mir.Facts.{toZ-ofZ}
-use Rattle.exports.proofs.CallLaws.{made-fits}
+use Rattle.exports.proofs.CallLaws.{made-fits, resets-same}
+use Rattle.exports.proofs.NumberLaws.{handed}
 use Rattle.exports.proofs.scionwheel_reset.Statement.{statement}
 use Rattle.exports.proofs.scionwheel_reset.Tie as tie
 
@@ -16,10 +17,11 @@ same-length c = search needs
 returns : tie.Need-returns
 returns c =
     let x = c .before .before in
+    let s = x .before .before in
     record {
       answer = x .reset .result;
-      gives = rw (toZ-ofZ (x .before .before .fits .value)) at (x .reset .ensures);
-      is = search needs;
+      gives = resets-same _ _ _ _ (s .args .value) _ _ _ (x .reset .ensures) (toZ-ofZ (s .fits .value));
+      is = handed (c .made .result) _ (c .made .ok) (c .made .ensures);
     }
 
 pub scionwheel-reset-spec : {M : Type 1} → statement M

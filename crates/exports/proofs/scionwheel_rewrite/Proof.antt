@@ -1,5 +1,6 @@
 use borrow.Author.Needs.{needs}
 use Rattle.exports.proofs.CallLaws.{written-fits, read-value, rewrites-unread, rewrites-read}
+use Rattle.exports.proofs.NumberLaws.{handed}
 use Rattle.exports.proofs.scionwheel_rewrite.Statement.{statement}
 use Rattle.exports.proofs.scionwheel_rewrite.Tie as tie
 
@@ -21,8 +22,9 @@ refused-requires c κs = search needs
 returns : tie.Need-returns
 returns c =
     let x = c .before .before .before .before .before in
-    rewrites-unread _ (x .read .result .step) (x .read .result .model) _ _ _ (x .read .ensures) (c .before .before .before .match .keys2)
-    (c .before .why .ensures) (search needs)
+    let out = x .before .before .before .args .out .now in
+    rewrites-unread _ (x .read .result .step) (x .read .result .model) out _ _ (x .read .ensures) (c .before .before .before .match .keys2)
+    (c .before .why .ensures) (handed (c .refused .result) _ (c .refused .ok) (c .refused .ensures))
 
 write-requires : tie.Need-write-requires
 write-requires c κs = search needs
@@ -39,7 +41,7 @@ returns-2 c =
     let t = w .before .before in
     let x = t .before .before .before in
     rewrites-read _ _ _ _ _ _ (read-value _ (x .read .result .step) _ _ (x .read .ensures) (t .enum-told .given .1))
-    (x .read .ensures .stands _ (t .enum-told .given .1)) (w .write .ensures) (search needs)
+    (x .read .ensures .stands _ (t .enum-told .given .1)) (w .write .ensures) (handed (c .written .result) _ (c .written .ok) (c .written .ensures))
 
 pub scionwheel-rewrite-spec : {M : Type 1} → statement M
 scionwheel-rewrite-spec =

@@ -1,5 +1,6 @@
 use borrow.Author.Needs.{needs}
 use mathlib.Core.Path.{refl}
+use Rattle.exports.proofs.NumberLaws.{handed}
 use Rattle.exports.proofs.told.Statement.{statement}
 use Rattle.exports.proofs.told.Tie as tie
 
@@ -22,7 +23,7 @@ returns-2 : tie.Need-returns-2
 returns-2 c = rw (c .enum-told2 .given .1) refl
 
 returns-3 : tie.Need-returns-3
-returns-3 c = rw (c .before .before .answer .given .1) (search needs)
+returns-3 c = rw (c .before .before .answer .given .1) (handed (c .refused .result) _ (c .refused .ok) (c .refused .ensures))
 
 pub told-spec : {M : Type 1} → statement M
 told-spec =

@@ -1,5 +1,6 @@
 use borrow.Author.Needs.{needs}
 use mathlib.Core.Path.{refl}
+use Rattle.exports.proofs.NumberLaws.{handed}
 use Rattle.exports.proofs.walked.Statement.{statement}
 use Rattle.exports.proofs.walked.Tie as tie
 
@@ -28,7 +29,7 @@ returns-3 : tie.Need-returns-3
 returns-3 c = rw (c .enum-told3 .given .1) refl
 
 returns-4 : tie.Need-returns-4
-returns-4 c = rw (c .before .before .v .given .1) (search needs)
+returns-4 c = rw (c .before .before .v .given .1) (handed (c .refused .result) _ (c .refused .ok) (c .refused .ensures))
 
 pub walked-spec : {M : Type 1} → statement M
 walked-spec =
