@@ -33,6 +33,10 @@ pub ⨁-more : (m : ℕ) (f : ℕ → Num) → ⨁ (m + 1) f ≡ ⨁ m f ⊕ f m
 unfolding ⨁
 ⨁-more m f = rw add-one
 
+-- a term −∞ adds nothing
+pub ⨁-low : (m : ℕ) (f : ℕ → Num) → f m ≡ −∞ → ⨁ (m + 1) f ≡ ⨁ m f
+⨁-low m f e = ⨁-more m f ∙ rw e (⊕-low (⨁ m f))
+
 -- a side's limits
 pub side-within : {k l : ℕ} (d : ℕ) (a x : Vec)
     → ((j : ℕ) → j < d → Within k (a j)) → ((j : ℕ) → j < d → Within l (x j))

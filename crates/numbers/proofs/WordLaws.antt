@@ -9,7 +9,7 @@ use Prim.Native.Nat.{ℕ, _≤_, _<_}
 use native.Mathlib.Omega.{arith}
 use lib.Dec.{T, eqb→eq}
 use lib.IntN.{ℤ, pos, negsuc, _+ℤ_, _-ℤ_}
-use lib.Signed.{ltZ, mag, nonNeg}
+use lib.Signed.{ltZ, leZ, mag, nonNeg}
 use mir.Syntax.{w32}
 use mir.Val.{SFits, ofZ, toZ}
 use mir.Facts.{toZ-ofZ, ofZ-toZ, sfits-toZ}
@@ -63,6 +63,26 @@ not-mark {z} f h = go (seen f)
     go : Marked z ⊎ Finite z → Finite z
     go (inl m) = absurd (h (ap (λ (x : ℤ). ofZ w32 x) (m .mark)))
     go (inr p) = p
+
+-- the test `LEAST <= a` passed
+pub not-low : {z : ℤ} → SFits w32 z → leZ (negsuc 999999999) (toZ w32 (ofZ w32 z)) ≡ true → Finite z
+not-low {z} f e = go (seen f)
+  where
+    go : Marked z ⊎ Finite z → Finite z
+    go (inl m) = let h : leZ (negsuc 999999999) z ≡ true = rw (toZ-ofZ f) at e in absurd (omega (zarith, rw (m .mark) at h))
+    go (inr p) = p
+
+-- the test `LEAST <= a` failed
+pub is-low : {z : ℤ} → SFits w32 z → Within 1000000000 (number z) → leZ (negsuc 999999999) (toZ w32 (ofZ w32 z)) ≡ false
+    → Marked z
+is-low {z} f w e = go (seen f)
+  where
+    go : Marked z ⊎ Finite z → Marked z
+    go (inl m) = m
+    go (inr p) =
+        let h : leZ (negsuc 999999999) z ≡ false = rw (toZ-ofZ f) at e in
+        let n : (hi z ≤ 1000000000) × (lo z ≤ 1000000000) = rw (p .is) at (w .near) in
+        absurd (omega (zarith, n .1))
 
 -- a word whose number is not −∞
 pub finite-word : {z : ℤ} → SFits w32 z → IsFin (number z) → Finite z

@@ -88,6 +88,9 @@ impl Vector {
     }
 }
 
+// A word below this, where vectors are computed with, is the mark: the test takes less than one for the mark itself.
+const LEAST: i32 = -1000000000;
+
 // The larger of two numbers.
 fn larger(a: i32, b: i32) -> i32
     ensures { λ r. ⌜ number r ≡ number a ⊕ number b ⌝ }
@@ -118,7 +121,10 @@ pub fn side(a: &[i32], x: &[i32]) -> i32
     let mut most = Vector::MARK;
     let mut j = 0;
     while j < x.len() {
-        most = larger(most, product(a[j], x[j]));
+        let c = a[j];
+        if LEAST <= c {
+            most = larger(most, product(c, x[j]));
+        }
         j += 1;
     }
     most
@@ -148,12 +154,13 @@ pub fn weight(g: &[i32], x: &[i32]) -> i32
     while 0 < j {
         j -= 1;
         let h = g[j];
-        if h != Vector::MARK {
+        if LEAST <= h {
             let y = x[j];
-            if y == Vector::MARK {
+            if LEAST <= y {
+                m = under(m, y, h);
+            } else {
                 return y;
             }
-            m = under(m, y, h);
         }
     }
     if m == FREE { Vector::MARK } else { m }
@@ -183,7 +190,7 @@ pub fn lift(out: &mut [i32], from: usize, h: &[i32], t: i32)
     let mut j = from;
     while j != out.len() {
         let g = h[j];
-        if g != Vector::MARK {
+        if LEAST <= g {
             let old = out[j];
             out[j] = larger(old, product(t, g));
         }

@@ -9,7 +9,7 @@ use mir.Facts.{toZ-ofZ}
 use Rattle.numbers.specs.Numbers.{Within}
 use Rattle.numbers.specs.Words.{number}
 use Rattle.numbers.specs.Places.{entries}
-use Rattle.numbers.proofs.WordLaws.{is-mark}
+use Rattle.numbers.proofs.WordLaws.{is-low}
 use Rattle.numbers.proofs.PlaceLaws.{Filling, filling-start, filling-same, filling-next, lifting}
 use Rattle.numbers.proofs.PlaceLaws.{lifting-none, lifting-done}
 use borrow.Author.Needs.{needs}
@@ -65,12 +65,13 @@ loop-again c =
     let l = c .before .before .before .loop in
     let g = getD (s .args .h .now) (l .j) (pos 0) in
     let f : SFits w32 g = record { sfits = c .before .g .given } in
+    let wide : Within 1000000000 (number g) = s .pre .1 .0 .each (l .j) (omega arith) in
     ⊎-elim
     (λ w. rw (w .4)
     (filling-next _ _ _ (l .out) (l .j) _ (l .inv) (omega arith) (search (needs, w .3 .ensures, w .2 .ensures))))
     (λ w. rw (w .1)
     (filling-same _ _ _ (l .out) (l .j) (l .inv) (omega arith)
-    (lifting-none _ (number (toZ w32 (ofZ w32 (s .args .t)))) (is-mark f (w .0 .left) .is))))
+    (lifting-none _ (number (toZ w32 (ofZ w32 (s .args .t)))) (is-low f wide (w .0 .left) .is))))
     (c .if1 .came)
 
 same-length : tie.Need-same-length Inv-loop μ-loop

@@ -8,7 +8,7 @@ use mir.Val.{toZ}
 use mir.Facts.{sfits-toZ}
 use Rattle.numbers.specs.Places.{entries}
 use Rattle.numbers.specs.Weights.{allowed, capOf, meet}
-use Rattle.numbers.proofs.WordLaws.{Finite, is-mark, not-mark, back, cap-free}
+use Rattle.numbers.proofs.WordLaws.{Finite, is-low, not-low, back, cap-free}
 use Rattle.numbers.proofs.WordLaws.{under-free, under-low, weigh-low, weigh-free, weigh-cap}
 use Rattle.numbers.proofs.WeightLaws.{meet-free}
 use Rattle.numbers.proofs.PlaceLaws.{weigh-back, weigh-next, weigh-all}
@@ -50,17 +50,7 @@ module _ (c : tie.Then1 Inv-loop μ-loop) where
 
   h-fin : Finite h
   unfolding h
-  h-fin = not-mark (record { sfits = c .before .h .given }) (c .if1 .taken)
-
-returns : tie.Need-returns Inv-loop μ-loop
-unfolding h
-returns c =
-    let b = c .before .before in
-    let l = b .before .before .before .loop in
-    let k = is-mark (record { sfits = c .before .y .given }) (c .if2 .taken) in
-    let q = under-low (toZ w32 (l .m)) _ _ (sfits-toZ (record { fits = l .inv .1 })) k (h-fin b) in
-    rw (back (c .before .y .given))
-    (weigh-low _ _ _ _ _ k (weigh-back (l .j) (l .j - 1) _ _ _ _ _ (omega arith) (l .inv .2) q))
+  h-fin = not-low (record { sfits = c .before .h .given }) (c .if1 .taken)
 
 under-requires : tie.Need-under-requires Inv-loop μ-loop
 unfolding h
@@ -69,7 +59,7 @@ under-requires c κs =
     let s = b .before .before .before .before in
     let j = b .before .before .before .loop .j - 1 in
     let y : Finite (getD (s .args .x .now) j (pos 0))
-    = not-mark (record { sfits = c .before .y .given }) (c .if2 .left) in
+    = not-low (record { sfits = c .before .y .given }) (c .if2 .taken) in
     rw (back (c .before .y .given), back (b .before .h .given))
     ((rw (y .is) tt, rw (h-fin b .is) tt), (s .pre .2 .each j (omega arith), s .pre .1 .each j (omega arith)))
 
@@ -85,14 +75,27 @@ loop-again c =
     let n = weigh-next (c .under .result) (l .m) (l .j) (l .j - 1) _ _ _ (c .under .ok) (omega arith) (l .inv .2) e in
     (omega arith, n .0, n .1)
 
+returns : tie.Need-returns Inv-loop μ-loop
+unfolding h
+returns c =
+    let b = c .before .before in
+    let l = b .before .before .before .loop in
+    let s = b .before .before .before .before in
+    let k = is-low (record { sfits = c .before .y .given }) (s .pre .2 .each (l .j - 1) (omega arith)) (c .if2 .left) in
+    let q = under-low (toZ w32 (l .m)) _ _ (sfits-toZ (record { fits = l .inv .1 })) k (h-fin b) in
+    rw (back (c .before .y .given))
+    (weigh-low _ _ _ _ _ k (weigh-back (l .j) (l .j - 1) _ _ _ _ _ (omega arith) (l .inv .2) q))
+
 loop-less-2 : tie.Need-loop-less-2 Inv-loop μ-loop
 loop-less-2 c = search needs
 
 loop-again-2 : tie.Need-loop-again-2 Inv-loop μ-loop
 loop-again-2 c =
+    let s = c .before .before .before .before in
     let l = c .before .before .before .loop in
     let p = capOf (toZ w32 (l .m)) in
-    let free = under-free (toZ w32 (l .m)) _ _ (is-mark (record { sfits = c .before .h .given }) (c .if1 .left)) in
+    let k = is-low (record { sfits = c .before .h .given }) (s .pre .1 .each (l .j - 1) (omega arith)) (c .if1 .left) in
+    let free = under-free (toZ w32 (l .m)) _ _ k in
     (omega arith, l .inv .1, weigh-back (l .j) (l .j - 1) _ _ p p _ (omega arith) (l .inv .2) free)
 
 -- the bound after all entries
@@ -119,10 +122,10 @@ weight-spec =
     shared-slice-copy-out-h
     mul-y
     shared-slice-copy-out-y
-    returns
     under-requires
     loop-less
     loop-again
+    returns
     loop-less-2
     loop-again-2
     returns-2
