@@ -76,7 +76,7 @@ module _ (n : ℕ) (small : n ≤ 6) (kind : Kind) where
       let k = numbered hx (x .then) in
       let same = same-got (k .then .is) in
       let fit = small-⊑ (pos (k .number)) (omega (arith, k .limit)) in
-      let limits : PlainLimits n (record { kind = kind; x = x .number; y = 0; k = pos (k .number); half = noHalf }) =
+      let limits : PlainLimits n (record { x = x .number; y = 0; k = pos (k .number); half = noHalf; kind = kind }) =
       record { clock = x .limit; least = record { le = omega arith }; most = fit .1; no-y = refl; no-half = refl } in
       let bytes : s ≡ bytesOf (x .number) ++ (bytesOf (k .number) ++ t) =
       x .stood .whole
@@ -101,7 +101,7 @@ module _ (n : ℕ) (small : n ≤ 6) (kind : Kind) where
       (rw (ne-eqb _ _ (w .differ)) (ask-there (folded (b .k)) limit (omega arith) finished))))
 
   abbrev differ : ℕ → ℕ → ℕ → Bound
-  differ x y v = record { kind = kind; x = x; y = y; k = unfolded v; half = noHalf }
+  differ x y v = record { x = x; y = y; k = unfolded v; half = noHalf; kind = kind }
 
   -- b is such a bound, and the bytes are its
   abbrev Differs : Bound → List ℕ → List ℕ → Type 0
@@ -158,7 +158,7 @@ module _ (n : ℕ) (small : n ≤ 6) where
       let two = parted (array 14 (pos 0) (entryCount n) entryForm) _ f in
       let same = same-got (two .second .is) in
       let back = entries .back (two .part) s (two .rest) hs (two .first) in
-      let limits : HalfLimits n (record { kind = HalfSpace; x = 0; y = 0; k = pos 0; half = two .part }) =
+      let limits : HalfLimits n (record { x = 0; y = 0; k = pos 0; half = two .part; kind = HalfSpace }) =
       record { no-x = refl; no-y = refl; no-k = refl; entries = back .0 } in
       let bytes = back .1 ∙ ap (_++_ (each entryBytes (take (entryCount n) (two .part)))) (same .1) in
       subst

@@ -76,8 +76,8 @@ tells-none = means (λ w. w .unused) packed
 
 -- ---- a bound by its fields
 pub same-bound : {a b : Kind} {x v y w : ℕ} {k l : ℤ} {g h : List ℤ} → a ≡ b → x ≡ v → y ≡ w → k ≡ l → g ≡ h
-    → _≡_ {A = Bound} (record { kind = a; x = x; y = y; k = k; half = g })
-    (record { kind = b; x = v; y = w; k = l; half = h })
+    → _≡_ {A = Bound} (record { x = x; y = y; k = k; half = g; kind = a })
+    (record { x = v; y = w; k = l; half = h; kind = b })
 same-bound ea ex ey ek eh = cc
 
 -- a bound with 0 everywhere is blank

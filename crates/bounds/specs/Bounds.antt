@@ -39,13 +39,10 @@ noHalf = replicate 14 (pos 0)
 
 -- the bound that stands where there is none, and the list that has none
 abbrev pub noBound : Bound
-noBound = record { kind = AtMost; x = 0; y = 0; k = pos 0; half = noHalf }
-
-abbrev pub noItems : List Bound
-noItems = replicate 8 noBound
+noBound = record { x = 0; y = 0; k = pos 0; half = noHalf; kind = AtMost }
 
 abbrev pub noBounds : Bounds
-noBounds = record { count = 0; items = noItems }
+noBounds = record { count = 0; items = replicate 8 noBound }
 
 -- an entry of a half-space: 0 is −∞, otherwise a folded value plus 1
 abbrev pub entryOf : ℕ → ℤ
@@ -60,7 +57,7 @@ unfoldable pub plainForm : ℕ → Kind → Form Bound
 plainForm n kind =
     ask n (λ x.
     ask 1000001 (λ k.
-    done (record { kind = kind; x = x; y = 0; k = pos k; half = noHalf })))
+    done (record { x = x; y = 0; k = pos k; half = noHalf; kind = kind })))
 
 -- kinds 2 and 3: two clocks that differ, and a folded k
 unfoldable pub differForm : ℕ → Kind → Form Bound
@@ -69,13 +66,13 @@ differForm n kind =
     ask n (λ y.
     cond (eqb x y) fault
     (ask 2000001 (λ v.
-    done (record { kind = kind; x = x; y = y; k = unfolded v; half = noHalf })))))
+    done (record { x = x; y = y; k = unfolded v; half = noHalf; kind = kind })))))
 
 -- kind 4: the entries of a, b, c, d
 unfoldable pub halfForm : ℕ → Form Bound
 halfForm n =
     array 14 (pos 0) (entryCount n) entryForm >>= λ h.
-    done (record { kind = HalfSpace; x = 0; y = 0; k = pos 0; half = h })
+    done (record { x = 0; y = 0; k = pos 0; half = h; kind = HalfSpace })
 
 -- what follows a kind
 abbrev pub kindForm : ℕ → Kind → Form Bound
@@ -102,4 +99,4 @@ boundsForm n =
 
 -- what stands past an array's end, for the checker: it is never read
 abbrev pub pastBound : Bound
-pastBound = record { kind = AtMost; x = 0; y = 0; k = pos 0; half = [] }
+pastBound = record { x = 0; y = 0; k = pos 0; half = []; kind = AtMost }

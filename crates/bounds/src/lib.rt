@@ -17,11 +17,11 @@ pub enum Kind {
 
 // A bound. What its kind leaves unused is 0.
 pub struct Bound {
-    pub kind: Kind,
     pub x: u32,
     pub y: u32,
     pub k: i32,
     pub half: [i32; 14],
+    pub kind: Kind,
 }
 
 // A list of bounds. What is behind the first `count` is unused.
@@ -35,11 +35,11 @@ pub fn no_bound() -> Bound
     ensures { λ r. ⌜ r ≡ noBound ⌝ }
 {
     Bound {
-        kind: Kind::AtMost,
         x: 0,
         y: 0,
         k: 0,
         half: [0; 14],
+        kind: Kind::AtMost,
     }
 }
 

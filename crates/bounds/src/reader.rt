@@ -2,12 +2,11 @@
 ghost use mathlib.Core.Path.{_≡_};
 ghost use Prim.Native.Nat.{_≤_, _<_};
 ghost use lib.IntN.{pos};
-ghost use lib.ListN.{drop};
 ghost use Rattle.codec.specs.Form.{array};
 ghost use Rattle.codec.specs.Answers.{ReadsAt, Refuses};
-ghost use Rattle.bounds.specs.Bounds.{noHalf, noBound, noBounds, noItems, kindOf, entryOf};
+ghost use Rattle.bounds.specs.Bounds.{noHalf, noBound, noBounds, kindOf, entryOf};
 ghost use Rattle.bounds.specs.Bounds.{entryForm, plainForm, differForm, halfForm};
-ghost use Rattle.bounds.specs.Bounds.{boundForm, itemsForm, boundsForm};
+ghost use Rattle.bounds.specs.Bounds.{boundForm, boundsForm};
 use crate::Bound;
 use crate::Bounds;
 use crate::Kind;
@@ -24,11 +23,6 @@ pub struct HalfRead {
 pub struct BoundRead {
     pub step: Step,
     pub bound: Bound,
-}
-
-pub struct ItemsRead {
-    pub step: Step,
-    pub items: [Bound; 8],
 }
 
 pub struct BoundsRead {
@@ -117,11 +111,11 @@ fn read_plain(s: &[u8], at: usize, n: u32, kind: Kind) -> BoundRead
         return refused_bound(b.why());
     };
     let bound = Bound {
-        kind,
         x,
         y: 0,
         k: k as i32,
         half: [0; 14],
+        kind,
     };
     BoundRead {
         step: Step::At(end),
@@ -162,11 +156,11 @@ fn read_differ(s: &[u8], at: usize, n: u32, kind: Kind) -> BoundRead
     };
     let k = codec::unfold(v);
     let bound = Bound {
-        kind,
         x,
         y,
         k,
         half: [0; 14],
+        kind,
     };
     BoundRead {
         step: Step::At(end),
@@ -186,11 +180,11 @@ fn read_whole(s: &[u8], at: usize, n: u32) -> BoundRead
         return refused_bound(step.why());
     };
     let bound = Bound {
-        kind: Kind::HalfSpace,
         x: 0,
         y: 0,
         k: 0,
         half,
+        kind: Kind::HalfSpace,
     };
     BoundRead {
         step: Step::At(end),
@@ -221,35 +215,6 @@ fn read_bound(s: &[u8], at: usize, n: u32) -> BoundRead
     }
 }
 
-// The bounds of a list whose count is read.
-fn read_items(s: &[u8], at: usize, n: u32, count: usize) -> ItemsRead
-    requires { ⌜ (n ≤ 6) × (count ≤ 8) ⌝ }
-    ensures { λ r. ⌜ ReadsAt (now (s .entry)) at (itemsForm n count) noItems (r .step) (r .items) ⌝ }
-{
-    let b = crate::no_bound();
-    let mut items = [b; 8];
-    let mut i = 0;
-    let mut from = at;
-    while i < count {
-        let r = read_bound(s, from, n);
-        let step = r.step;
-        let one = r.bound;
-        let Step::At(next) = step else {
-            return ItemsRead {
-                step: Step::Refused(step.why()),
-                items: [b; 8],
-            };
-        };
-        items[i] = one;
-        from = next;
-        i += 1;
-    }
-    ItemsRead {
-        step: Step::At(from),
-        items,
-    }
-}
-
 fn refused_bounds(e: Refusal) -> BoundsRead
     ensures { λ r. ⌜ Refuses noBounds e (r .step) (r .bounds) ⌝ }
 {
@@ -273,15 +238,25 @@ pub fn read_bounds(s: &[u8], at: usize, n: u32) -> BoundsRead
     else {
         return refused_bounds(a.why());
     };
-    let r = read_items(s, after, n, count as usize);
-    let step = r.step;
-    let items = r.items;
-    let Step::At(end) = step else {
-        return refused_bounds(step.why());
-    };
+    let blank = crate::no_bound();
+    let mut items = [blank; 8];
+    let many = count as usize;
+    let mut i = 0;
+    let mut from = after;
+    while i < many {
+        let r = read_bound(s, from, n);
+        let step = r.step;
+        let one = r.bound;
+        let Step::At(next) = step else {
+            return refused_bounds(step.why());
+        };
+        items[i] = one;
+        from = next;
+        i += 1;
+    }
     let bounds = Bounds { count, items };
     BoundsRead {
-        step: Step::At(end),
+        step: Step::At(from),
         bounds,
     }
 }

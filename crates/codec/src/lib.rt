@@ -1,13 +1,12 @@
 // The model's numbers as bytes, read and written.
 ghost use mathlib.Core.Path.{_≡_};
-ghost use Prim.Native.Nat.{_+_, _<_, _≤_};
+ghost use Prim.Native.Nat.{_<_, _≤_};
 ghost use lib.IntN.{natAbs};
-ghost use lib.ListN.{length, drop};
+ghost use lib.ListN.{drop};
 ghost use Rattle.codec.specs.Number.{numberIn, bytesOf, folded, unfolded};
 ghost use Rattle.codec.specs.Form.{done, ask, readIn};
 ghost use Rattle.codec.specs.Answers.{ReadsNumber, whyNumber, whyStep, Writes, Room};
 use numbers::Refusal;
-use numbers::Vector;
 
 // A number and where the next byte stands, or why there is none.
 pub enum Number {
@@ -63,10 +62,10 @@ pub fn read_number(s: &[u8], at: usize) -> Number
         return Number::Refused(Refusal::Bytes);
     }
     let b = s[at + 1] as u32;
-    if b == 0 {
-        return Number::Refused(Refusal::Bytes);
-    }
     if b < 128 {
+        if b == 0 {
+            return Number::Refused(Refusal::Bytes);
+        }
         return Number::Value {
             value: a - 128 + b * 128,
             next: at + 2,

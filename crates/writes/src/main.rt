@@ -135,19 +135,19 @@ fn unused_places() {
     with_bound(c);
     let half = [0; 14];
     let d = Bound {
-        kind: Kind::HalfSpace,
         x: 1,
         y: 0,
         k: 0,
         half,
+        kind: Kind::HalfSpace,
     };
     with_bound(d);
     let mut e = Bound {
-        kind: Kind::HalfSpace,
         x: 0,
         y: 0,
         k: 0,
         half,
+        kind: Kind::HalfSpace,
     };
     with_bound(e);
     e.half[6] = 1;
@@ -158,11 +158,11 @@ fn unused_places() {
 fn blank(kind: Kind) -> Bound {
     let half = [0; 14];
     Bound {
-        kind,
         x: 0,
         y: 0,
         k: 0,
         half,
+        kind,
     }
 }
 

@@ -44,22 +44,22 @@ cast-b c = omega (arith, c .shared-slice-known2 .given (c .before .before .befor
 
 returns-4 : tie.Need-returns-4
 returns-4 c =
-    let a = c .before .before .before .before .before .before .args in
+    let a = c .before .before .before .before .before .before .before .args in
     zero1 (a .s .now) (a .at) (omega arith) (omega arith) (omega arith) (omega arith)
 
-mul-t17 : tie.Need-mul-t17
-mul-t17 c = search needs
+mul-t18 : tie.Need-mul-t18
+mul-t18 c = search needs
 
-add-t18 : tie.Need-add-t18
-add-t18 c =
+add-t19 : tie.Need-add-t19
+add-t19 c =
     omega (
       arith,
       c .before .before .shared-slice-known2 .given
           (c .before .before .before .before .before .before .before .args .at),
     )
 
-add-t19 : tie.Need-add-t19
-add-t19 c = search needs
+add-t20 : tie.Need-add-t20
+add-t20 c = search needs
 
 returns-5 : tie.Need-returns-5
 returns-5 c =
@@ -71,7 +71,7 @@ add-if6 c = search needs
 
 returns-6 : tie.Need-returns-6
 returns-6 c =
-    let a = c .before .before .before .before .before .before .before .before .args in
+    let a = c .before .before .before .before .before .before .before .args in
     cut2 (a .s .now) (a .at) (omega arith) (omega arith) (omega arith) (λ e. omega arith) (omega arith) (omega arith)
 
 add-c : tie.Need-add-c
@@ -85,51 +85,51 @@ cast-c c =
     omega (
       arith,
       c .shared-slice-known3 .given
-          (c .before .before .before .before .before .before .before .before .before .args .at + 2),
+          (c .before .before .before .before .before .before .before .before .args .at + 2),
     )
 
 returns-7 : tie.Need-returns-7
 returns-7 c =
-    let a = c .before .before .before .before .before .before .before .before .before .before .args in
+    let a = c .before .before .before .before .before .before .before .before .before .args in
     zero2 (a .s .now) (a .at) (omega arith) (omega arith) (omega arith) (λ e. omega arith) (omega arith)
     (omega arith) (omega arith)
 
 -- the three bytes that were read
 bytes : (c : tie.Then8) (i : ℕ) → getD
-    (c .before .before .before .before .before .before .before .before .before .before .before .args .s .now) i 0 <
+    (c .before .before .before .before .before .before .before .before .before .before .args .s .now) i 0 <
     256
 bytes c i = omega (arith, c .before .before .shared-slice-known3 .given i)
 
 place : tie.Then8 → ℕ
-place c = c .before .before .before .before .before .before .before .before .before .before .before .args .at
+place c = c .before .before .before .before .before .before .before .before .before .before .args .at
 
-mul-t25 : tie.Need-mul-t25
+mul-t26 : tie.Need-mul-t26
 unfolding place
-mul-t25 c = omega (arith, bytes c (place c), bytes c (place c + 1), bytes c (place c + 2))
+mul-t26 c = omega (arith, bytes c (place c), bytes c (place c + 1), bytes c (place c + 2))
 
-add-t26 : tie.Need-add-t26
+add-t27 : tie.Need-add-t27
 unfolding place
-add-t26 c = omega (arith, bytes c (place c), bytes c (place c + 1), bytes c (place c + 2))
+add-t27 c = omega (arith, bytes c (place c), bytes c (place c + 1), bytes c (place c + 2))
 
-mul-t27 : tie.Need-mul-t27
-mul-t27 c = search needs
-
-add-t28 : tie.Need-add-t28
-unfolding place
-add-t28 c = omega (arith, bytes c (place c), bytes c (place c + 1), bytes c (place c + 2))
+mul-t28 : tie.Need-mul-t28
+mul-t28 c = search needs
 
 add-t29 : tie.Need-add-t29
-add-t29 c = search needs
+unfolding place
+add-t29 c = omega (arith, bytes c (place c), bytes c (place c + 1), bytes c (place c + 2))
+
+add-t30 : tie.Need-add-t30
+add-t30 c = search needs
 
 returns-8 : tie.Need-returns-8
 returns-8 c =
-    let a = c .before .before .before .before .before .before .before .before .before .before .before .args in
+    let a = c .before .before .before .before .before .before .before .before .before .before .args in
     three (a .s .now) (a .at) (omega arith) (omega arith) (omega arith) (λ e. omega arith) (omega arith)
     (omega arith) (λ e. omega arith) (omega arith)
 
 returns-9 : tie.Need-returns-9
 returns-9 c =
-    let a = c .before .before .before .before .before .before .before .before .before .before .before .args in
+    let a = c .before .before .before .before .before .before .before .before .before .before .args in
     four (a .s .now) (a .at) (omega arith) (omega arith) (omega arith) (λ e. omega arith) (omega arith)
     (omega arith) (λ e. omega arith) (omega arith)
 
@@ -148,9 +148,9 @@ read-number-spec =
     shared-slice-read-b
     cast-b
     returns-4
-    mul-t17
-    add-t18
+    mul-t18
     add-t19
+    add-t20
     returns-5
     add-if6
     returns-6
@@ -158,10 +158,10 @@ read-number-spec =
     shared-slice-read-c
     cast-c
     returns-7
-    mul-t25
-    add-t26
-    mul-t27
-    add-t28
+    mul-t26
+    add-t27
+    mul-t28
     add-t29
+    add-t30
     returns-8
     returns-9)

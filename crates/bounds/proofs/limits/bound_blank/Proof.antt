@@ -29,7 +29,7 @@ half-fits-requires c κs = search needs
 returns-5 : tie.Need-returns-5
 returns-5 c =
     let k = word-zero _
-    (c .before .before .before .before .before .before .before .before .before .struct-told .given .1 .1 .1 .0
+    (c .before .before .before .before .before .before .before .before .before .struct-told .given .1 .1 .0
     .1) (c .before .if3 .left) in
     means (λ e. blank-of _ (c .before .before .before .before .before .before .enum-told .given .1)
     (c .before .before .before .before .if1 .left) (c .before .before .if2 .left) k e)

@@ -20,7 +20,7 @@ returns-4 : tie.Need-returns-4
 returns-4 c =
     let low =
     rw (back
-    (c .before .before .before .before .before .before .before .before .struct-told .given .1 .1 .1 .0 .1))
+    (c .before .before .before .before .before .before .before .before .struct-told .given .1 .1 .0 .1))
     at (c .if4 .taken) in
     never (λ w. omega (zarith, w .least .le, low))
 
@@ -28,7 +28,7 @@ returns-5 : tie.Need-returns-5
 returns-5 c =
     let high =
     rw (back
-    (c .before .before .before .before .before .before .before .before .before .struct-told .given .1 .1 .1
+    (c .before .before .before .before .before .before .before .before .before .struct-told .given .1 .1
     .0 .1)) at (c .if5 .taken) in
     never (λ w. omega (zarith, w .most .le, high))
 
@@ -41,7 +41,7 @@ returns-6 c =
     back
     {z = c .before .before .before .before .before .before .before .before .before .before .before .args .b .k}
     (c .before .before .before .before .before .before .before .before .before .before .struct-told
-    .given .1 .1 .1 .0 .1) in
+    .given .1 .1 .0 .1) in
     let least = rw word at (c .before .before .if4 .left) in
     let most = rw word at (c .before .if5 .left) in
     means

@@ -12,13 +12,13 @@ returns c = never (λ w. omega (arith, c .if1 .taken, w .clock))
 
 returns-2 : tie.Need-returns-2
 returns-2 c =
-    let low = rw (back (c .before .before .before .before .struct-told .given .1 .1 .1 .0 .1)) at
+    let low = rw (back (c .before .before .before .before .struct-told .given .1 .1 .0 .1)) at
     (c .if2 .taken) in
     never (λ w. omega (zarith, w .least .le, low))
 
 returns-3 : tie.Need-returns-3
 returns-3 c =
-    let high = rw (back (c .before .before .before .before .before .struct-told .given .1 .1 .1 .0 .1)) at
+    let high = rw (back (c .before .before .before .before .before .struct-told .given .1 .1 .0 .1)) at
     (c .if3 .taken) in
     never (λ w. omega (zarith, w .most .le, high))
 
@@ -31,7 +31,7 @@ half-fits-requires c κs = search needs
 returns-5 : tie.Need-returns-5
 returns-5 c =
     let word = back {z = c .before .before .before .before .before .before .before .before .before .args .b .k}
-    (c .before .before .before .before .before .before .before .before .struct-told .given .1 .1 .1 .0 .1) in
+    (c .before .before .before .before .before .before .before .before .struct-told .given .1 .1 .0 .1) in
     let least = rw word at (c .before .before .before .before .if2 .left) in
     let most = rw word at (c .before .before .before .if3 .left) in
     means

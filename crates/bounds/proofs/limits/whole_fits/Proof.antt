@@ -31,7 +31,7 @@ half-fits-requires c κs = search needs
 returns-4 : tie.Need-returns-4
 returns-4 c =
     let zero =
-    word-zero _ (c .before .before .before .before .before .before .before .struct-told .given .1 .1 .1 .0 .1)
+    word-zero _ (c .before .before .before .before .before .before .before .struct-told .given .1 .1 .0 .1)
     (c .before .if3 .left) in
     means (λ e. record {
       no-x = c .before .before .before .before .if1 .left;

@@ -9,7 +9,7 @@ use Rattle.bounds.proofs.writer.write_differ.Tie as tie
 fold-requires : tie.Need-fold-requires
 fold-requires c κs =
     let fit = c .before .before .pre .0 .2 in
-    rw (back (c .struct-told .given .1 .1 .1 .0 .1)) (abs-small _ (fit .least) (fit .most))
+    rw (back (c .struct-told .given .1 .1 .0 .1)) (abs-small _ (fit .least) (fit .most))
 
 write-number-requires : tie.Need-write-number-requires
 write-number-requires c κs =
@@ -47,7 +47,7 @@ write-number-requires-4 c κs =
           .fold .ensures,
       back
           (c .before .before .before .before .before .before .before .before .before .before .before .before
-          .before .before .struct-told .given .1 .1 .1 .0 .1),
+          .before .before .struct-told .given .1 .1 .0 .1),
     )
     (omega (arith, small), room-next _ _ (c .before .before .before .write-number3 .ensures) room)
 
@@ -63,7 +63,7 @@ returns c =
           {z = c .before .before .before .before .before .before .before .before .before .before .before .before
           .before .before .before .before .before .before .before .args .b .k}
           (c .before .before .before .before .before .before .before .before .before .before .before
-          .before .before .before .before .before .before .struct-told .given .1 .1 .1 .0 .1),
+          .before .before .before .before .before .before .struct-told .given .1 .1 .0 .1),
     ) at
     (c .before .before .write-number4 .ensures) in
     wrote-then

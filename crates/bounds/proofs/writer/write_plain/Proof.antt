@@ -24,7 +24,7 @@ cast-write-number c =
     let fit = c .before .before .before .before .before .before .before .before .before .before .before .pre .0 .2 in
     let small = not-negative _ (fit .least) (fit .most) in
     rw (back
-    (c .before .before .before .before .before .before .before .before .before .struct-told .given .1 .1 .1 .0
+    (c .before .before .before .before .before .before .before .before .before .struct-told .given .1 .1 .0
     .1)) (small .0, small .1)
 
 write-number-requires-3 : tie.Need-write-number-requires-3
@@ -34,7 +34,7 @@ write-number-requires-3 c κs =
     let room = room-next _ _ (c .before .before .before .write-number2 .ensures)
     (room-next _ _ (c .before .before .before .before .before .before .before .write-number .ensures) (p .1)) in
     rw (back
-    (c .before .before .before .before .before .before .before .before .before .struct-told .given .1 .1 .1 .0
+    (c .before .before .before .before .before .before .before .before .before .struct-told .given .1 .1 .0
     .1)) (omega (arith, small .2), room)
 
 same-length : tie.Need-same-length
@@ -45,7 +45,7 @@ returns c =
     let k = rw
     (back
     (c .before .before .before .before .before .before .before .before .before .before .before .before
-    .struct-told .given .1 .1 .1 .0 .1)) at (c .before .before .write-number3 .ensures) in
+    .struct-told .given .1 .1 .0 .1)) at (c .before .before .write-number3 .ensures) in
     wrote-then
     (c .before .before .before .before .before .before .before .before .before .before .write-number .ensures)
     (wrote-then (c .before .before .before .before .before .before .write-number2 .ensures) k)

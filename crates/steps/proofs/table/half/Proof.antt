@@ -57,22 +57,22 @@ returns c = let a = c .before .before .before .before .before .before .args in
     let p = c .before .before .before .before .before .before .pre in
     let told = c .before .before .enum-told .given .1 in
     half-as (a .n) (a .b) AtMost told
-    (at-most (a .n) (a .b) (fits-as (a .n) (a .b) AtMost told (p .1)) (rw (back (c .before .struct-told .given .1 .1 .1 .0 .1)) at (c .by-row .ensures)))
+    (at-most (a .n) (a .b) (fits-as (a .n) (a .b) AtMost told (p .1)) (rw (back (c .before .struct-told .given .1 .1 .0 .1)) at (c .by-row .ensures)))
 
 returns-2 : tie.Need-returns-2
 returns-2 c = let a = c .before .before .before .before .before .before .args in
     let p = c .before .before .before .before .before .before .pre in
     let told = c .before .before .enum-told2 .given .1 in
     half-as (a .n) (a .b) AtLeast told
-    (at-least (a .n) (a .b) (fits-as (a .n) (a .b) AtLeast told (p .1)) (rw (back (c .before .struct-told2 .given .1 .1 .1 .0 .1)) at (c .by-row2 .ensures)))
+    (at-least (a .n) (a .b) (fits-as (a .n) (a .b) AtLeast told (p .1)) (rw (back (c .before .struct-told2 .given .1 .1 .0 .1)) at (c .by-row2 .ensures)))
 
 returns-3 : tie.Need-returns-3
 returns-3 c = let a = c .before .before .before .before .before .before .args in
-    half-as (a .n) (a .b) DifferAtMost (c .before .before .enum-told3 .given .1) (rw (back (c .before .struct-told3 .given .1 .1 .1 .0 .1)) at (c .by-row3 .ensures))
+    half-as (a .n) (a .b) DifferAtMost (c .before .before .enum-told3 .given .1) (rw (back (c .before .struct-told3 .given .1 .1 .0 .1)) at (c .by-row3 .ensures))
 
 returns-4 : tie.Need-returns-4
 returns-4 c = let a = c .before .before .before .before .before .before .args in
-    half-as (a .n) (a .b) DifferAtLeast (c .before .before .enum-told4 .given .1) (rw (back (c .before .struct-told4 .given .1 .1 .1 .0 .1)) at (c .by-row4 .ensures))
+    half-as (a .n) (a .b) DifferAtLeast (c .before .before .enum-told4 .given .1) (rw (back (c .before .struct-told4 .given .1 .1 .0 .1)) at (c .by-row4 .ensures))
 
 returns-5 : tie.Need-returns-5
 returns-5 c = let a = c .before .before .before .before .before .args in
