@@ -21,8 +21,8 @@ use Rattle.bounds.specs.Bounds.{noBounds, boundsForm}
 use Rattle.model.specs.declared.Edge.{Edge}
 use Rattle.model.specs.declared.reader.Goal.{Goal}
 use Rattle.model.specs.Models.{noEdge, noGoal, edgeForm, goalForm}
-use Rattle.model.specs.Outlines.{valueOr, standing, edgeAt}
-use Rattle.model.specs.Surveys.{itemAt, Places, Sources, EdgesPlaced, ReadsGoal}
+use Rattle.model.specs.Outlines.{valueOr, itemAt, edgeAt, standing}
+use Rattle.model.specs.Surveys.{Places, Sources, EdgesPlaced, ReadsGoal}
 use Rattle.model.proofs.ReadLaws.{stopped}
 
 module _ {A : Type 0} (blank : A) where

@@ -6,7 +6,7 @@ use lib.ListN.{length, getD, take, drop, replicate}
 use Rattle.numbers.specs.Refusals.{refusalNumber}
 use Rattle.numbers.specs.declared.Refusal.{Refusal}
 use Rattle.codec.specs.Number.{Got, got, refused}
-use Rattle.codec.specs.Form.{readIn, padded}
+use Rattle.codec.specs.Form.{Form, readIn, padded}
 use Rattle.codec.specs.declared.Step.{Step}
 use Rattle.codec.specs.declared.Step.the-variants.{At, Refused as Stopped}
 use Rattle.bounds.specs.declared.Bounds.{Bounds}
@@ -23,12 +23,15 @@ abbrev pub valueOr : {A : Type 0} → A → Got A → A
 valueOr blank (got a t) = a
 valueOr blank (refused e) = blank
 
--- what stands at a place
+-- what stands at a place by a form
+abbrev pub itemAt : {A : Type 0} → Form A → A → List ℕ → ℕ → A
+itemAt F blank s at = valueOr blank (readIn F (drop at s))
+
 abbrev pub listAt : ℕ → List ℕ → ℕ → Bounds
-listAt n s at = valueOr noBounds (readIn (boundsForm n) (drop at s))
+listAt n = itemAt (boundsForm n) noBounds
 
 abbrev pub edgeAt : ℕ → ℕ → List ℕ → ℕ → Edge
-edgeAt n l s at = valueOr noEdge (readIn (edgeForm n l) (drop at s))
+edgeAt n l = itemAt (edgeForm n l) noEdge
 
 -- what stands at the first places, in an array of a fixed size
 abbrev pub standing : {A : Type 0} → ℕ → A → (ℕ → A) → ℕ → List ℕ → List A

@@ -10,11 +10,7 @@ use Rattle.codec.specs.declared.Step.{Step}
 use Rattle.codec.specs.declared.Step.the-variants.{At, Refused as Stopped}
 use Rattle.model.specs.declared.reader.Goal.{Goal}
 use Rattle.model.specs.Models.{noEdge, noGoal, edgeForm, goalForm}
-use Rattle.model.specs.Outlines.{valueOr, listAt, edgeAt, standing}
-
--- what stands at a place by a form
-abbrev pub itemAt : {A : Type 0} → Form A → A → List ℕ → ℕ → A
-itemAt F blank s at = valueOr blank (readIn F (drop at s))
+use Rattle.model.specs.Outlines.{itemAt, listAt, edgeAt, standing}
 
 -- the places of `count` items from `at` on: what stands there is the array that is read; a refusal has places 0 beside it
 pub record Places {A : Type 0} (F : Form A) (blank : A) (size count : ℕ) (s : List ℕ) (at : ℕ) (step : Step)

@@ -145,6 +145,10 @@ pub fn write(model: Model, out: &mut [u8]) -> Written
     if !fits {
         return Written::Refused(Refusal::Model);
     }
+    if 33664 <= out.len() {
+        let end = writer::write_model(&mut *out, model); // no model is longer
+        return Written::Bytes(end);
+    }
     let mut bytes = [0u8; 33664];
     let end = writer::write_model(&mut bytes, model);
     if out.len() < end {
