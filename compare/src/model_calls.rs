@@ -10,9 +10,10 @@ fn shown(bytes: &[u8], areas: &[(&str, usize)]) -> String {
     format!("  bytes {}{}", hex(bytes), areas.collect::<String>())
 }
 
-// The bytes are read and written back.
+// The bytes are read and written back, also into areas about as long as the longest model.
 fn rewrite(random: &mut Random, tally: &mut Tally, bytes: &[u8]) {
-    let length = random::length(random, bytes.len());
+    let long = random.chance(10);
+    let length = if long { random.pick(&[33_663, 33_664, 33_665, 40_000]) } else { random::length(random, bytes.len()) };
     let before = random.filled_bytes(length);
     let (mut our_out, mut rule_out, given) = (before.clone(), before, bytes.to_vec());
     let input = Input { call: "rewrite", shown: &|| shown(bytes, &[("area", length)]) };
