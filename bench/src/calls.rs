@@ -1,6 +1,6 @@
 // The calls of one side, what a row gives them, and what it lends them.
 use crate::callgrind::counted;
-use crate::twin;
+use crate::twin::{self, TEXT};
 use std::ffi::CStr;
 use std::hint::black_box;
 
@@ -15,7 +15,7 @@ pub struct Side {
     hull: fn(usize, &[i32], &[i32], &mut [i32]) -> i64,
     rewrite: fn(&[u8], &mut [u8]) -> i64,
     walk: fn(&[u8], &mut [i32], &mut [u64; 3]) -> i64,
-    answer: fn(&[u8], &mut [i32], &mut [u8]) -> i64,
+    print: fn(&[u8], &mut [i32], &mut [u8; TEXT]) -> i64,
 }
 
 macro_rules! side {
@@ -31,7 +31,7 @@ macro_rules! side {
             hull: calls::hull,
             rewrite: calls::rewrite,
             walk: calls::walk,
-            answer: calls::answer,
+            print: calls::print,
         }
     }};
 }
@@ -51,7 +51,7 @@ pub enum Input {
     Hull { first: Vec<i32>, second: Vec<i32> },
     Rewrite { bytes: Vec<u8> },
     Walk { bytes: Vec<u8> },
-    Answer { bytes: Vec<u8> },
+    Print { bytes: Vec<u8> },
 }
 
 // The areas that a call may write to.
@@ -59,13 +59,14 @@ pub enum Input {
 pub struct Lent {
     pub words: Vec<i32>,
     pub bytes: Vec<u8>,
+    pub text: [u8; TEXT],
     pub counts: [u64; 3],
 }
 
 impl Lent {
     // Room for every call: 64 records, the longest model; no word of it is 0 before.
     pub fn new(n: usize) -> Lent {
-        Lent { words: vec![7; 64 * (4 + 32 * (n + 1)) + 5], bytes: vec![7; 33_670], counts: [7; 3] }
+        Lent { words: vec![7; 64 * (4 + 32 * (n + 1)) + 5], bytes: vec![7; 33_670], text: [7; TEXT], counts: [7; 3] }
     }
 }
 
@@ -73,7 +74,7 @@ impl Side {
     // The answer of a call, its instructions counted into a dump of this name.
     pub fn call(&self, n: usize, input: &Input, lent: &mut Lent, name: &CStr) -> i64 {
         let (side, n) = (black_box(self), black_box(n));
-        let Lent { words, bytes: out, counts } = lent;
+        let Lent { words, bytes: out, text, counts } = lent;
         match black_box(input) {
             Input::Contains { list, point } => counted(name, || (side.contains)(n, list, point)),
             Input::Included { inner, outer } => counted(name, || (side.included)(n, inner, outer)),
@@ -83,7 +84,7 @@ impl Side {
             Input::Hull { first, second } => counted(name, || (side.hull)(n, first, second, words)),
             Input::Rewrite { bytes } => counted(name, || (side.rewrite)(bytes, out)),
             Input::Walk { bytes } => counted(name, || (side.walk)(bytes, words, counts)),
-            Input::Answer { bytes } => counted(name, || (side.answer)(bytes, words, out)),
+            Input::Print { bytes } => counted(name, || (side.print)(bytes, words, text)),
         }
     }
 }

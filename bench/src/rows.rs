@@ -187,8 +187,8 @@ fn models(rows: &mut Vec<Row>) {
     }
     add("walk of models/stale, states kept", 10, 3, Input::Walk { bytes: stale.clone() });
     add("walk of models/fresh, states kept", 22, 3, Input::Walk { bytes: fresh });
-    add("answer to models/stale, states kept", 10, 3, Input::Answer { bytes: stale.clone() });
-    add("answer of 63 edges, states kept", 64, 2, Input::Answer { bytes: ticking(2, 64) });
+    add("print of models/stale, states kept", 10, 3, Input::Print { bytes: stale.clone() });
+    add("print of 63 edges, states kept", 64, 2, Input::Print { bytes: ticking(2, 64) });
     add("rewrite of models/stale, bytes", stale.len(), 3, Input::Rewrite { bytes: stale });
     add("rewrite of the longest model, bytes", 33_664, 6, Input::Rewrite { bytes: longest() });
 }

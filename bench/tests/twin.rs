@@ -10,6 +10,7 @@ mod twin;
 use random::Random;
 use rule::{calls, model, text, walk};
 use std::fmt::Debug;
+use text::TEXT;
 
 fn same<T: Clone + PartialEq + Debug>(area: &[T], twin: impl Fn(&mut [T]) -> i64, rule: impl Fn(&mut [T]) -> i64) {
     let (mut by_twin, mut by_rule) = (area.to_vec(), area.to_vec());
@@ -38,17 +39,17 @@ fn set_calls() {
 }
 
 // Counts and text are lent beside the area.
-fn same_walk(bytes: &[u8], area: &[i32], out: &[u8]) {
+fn same_walk(bytes: &[u8], area: &[i32], counts: [u64; 3], text: [u8; TEXT]) {
     let of = |walk: fn(&[u8], &mut [i32], &mut [u64; 3]) -> i64| {
-        let (mut area, mut counts) = (area.to_vec(), [3; 3]);
+        let (mut area, mut counts) = (area.to_vec(), counts);
         (walk(bytes, &mut area, &mut counts), area, counts)
     };
-    assert_eq!(of(twin::walk), of(|bytes, area, counts| walk::walk(bytes, area, counts)));
-    let of = |answer: fn(&[u8], &mut [i32], &mut [u8]) -> i64| {
-        let (mut area, mut out) = (area.to_vec(), out.to_vec());
-        (answer(bytes, &mut area, &mut out), area, out)
+    assert_eq!(of(twin::walk), of(walk::walk));
+    let of = |print: fn(&[u8], &mut [i32], &mut [u8; TEXT]) -> i64| {
+        let (mut area, mut text) = (area.to_vec(), text);
+        (print(bytes, &mut area, &mut text), area, text)
     };
-    assert_eq!(of(twin::answer), of(text::answer));
+    assert_eq!(of(twin::print), of(text::print));
 }
 
 #[test]
@@ -63,10 +64,9 @@ fn model_calls() {
             2 => random::with_long_number(random, &made),
             _ => model::written(&made),
         };
-        let (words, text) = (random.below(64 * 228), random::length(random, 397));
-        let (length, area, text) = (random::length(random, bytes.len()), random.filled_words(words), random.filled_bytes(text));
-        let out = random.filled_bytes(length);
+        let (words, length) = (random.below(64 * 228), random::length(random, bytes.len()));
+        let (area, out) = (random.filled_words(words), random.filled_bytes(length));
         same(&out, |out| twin::rewrite(&bytes, out), |out| model::rewrite(&bytes, out));
-        same_walk(&bytes, &area, &text);
+        same_walk(&bytes, &area, random.filled_counts(), random.filled_text());
     }
 }

@@ -10,7 +10,7 @@ pub(crate) use crate::ours;
 pub mod ours {
     pub use crate::rule::calls::{contains, delay, hull, included, intersect, reset};
     pub use crate::rule::model::rewrite;
-    pub use crate::rule::text::answer;
+    pub use crate::rule::text::print;
     pub use crate::rule::walk::walk;
 }
 

@@ -43,8 +43,8 @@ fn sets() {
 }
 
 fn text(bytes: &[u8]) -> String {
-    let (mut area, mut text) = (vec![7; 6400], [7; 397]);
-    let length = ours::answer(bytes, &mut area, &mut text).max(0) as usize;
+    let (mut area, mut text) = (vec![7; 6400], [7; 512]);
+    let length = ours::print(bytes, &mut area, &mut text).max(0) as usize;
     String::from_utf8_lossy(&text[..length]).into_owned()
 }
 

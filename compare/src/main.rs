@@ -5,6 +5,8 @@ mod examples;
 mod meaning;
 mod model_calls;
 #[cfg(feature = "ours")]
+#[allow(dead_code)]
+#[path = "../../bindings/scionwheel.rs"]
 mod ours;
 mod random;
 mod rule;

@@ -1,4 +1,4 @@
-// The calls over a model's bytes: read and write back, walk, answer.
+// The calls over a model's bytes: read and write back, walk, print.
 use crate::against::{ours, Input};
 use crate::random::{self, Random};
 use crate::rule::model::written;
@@ -25,11 +25,12 @@ fn rewrite(random: &mut Random, tally: &mut Tally, bytes: &[u8]) {
     input.count(tally, rule, "written");
 }
 
-// Verdict, counts, and every word of the state area.
+// Verdict, counts, and every word of the state area; the counts of a refusal are those that were there.
 fn walks(random: &mut Random, tally: &mut Tally, bytes: &[u8], words: usize) {
     let before = random.filled_words(words);
     let (mut our_area, mut rule_area, given) = (before.clone(), before, bytes.to_vec());
-    let (mut our_counts, mut rule_counts) = ([3; 3], [3; 3]);
+    let counts = random.filled_counts();
+    let (mut our_counts, mut rule_counts) = (counts, counts);
     let input = Input { call: "walk", shown: &|| shown(bytes, &[("state area", words)]) };
     input.announce();
     let ours = ours::walk(&given, &mut our_area, &mut our_counts);
@@ -42,15 +43,14 @@ fn walks(random: &mut Random, tally: &mut Tally, bytes: &[u8], words: usize) {
 }
 
 // The length, the text and what is behind it, and the state area.
-fn answers(random: &mut Random, tally: &mut Tally, bytes: &[u8], words: usize) {
-    let length = if random.chance(10) { random.pick(&[0, 1, 100, 395, 396]) } else { 397 + random.below(9) };
-    let (area, before) = (random.filled_words(words), random.filled_bytes(length));
-    let (mut our_area, mut our_text) = (area.clone(), before.clone());
+fn prints(random: &mut Random, tally: &mut Tally, bytes: &[u8], words: usize) {
+    let (area, before) = (random.filled_words(words), random.filled_text());
+    let (mut our_area, mut our_text) = (area.clone(), before);
     let (mut rule_area, mut rule_text, given) = (area, before, bytes.to_vec());
-    let input = Input { call: "answer", shown: &|| shown(bytes, &[("state area", words), ("text area", length)]) };
+    let input = Input { call: "print", shown: &|| shown(bytes, &[("state area", words)]) };
     input.announce();
-    let ours = ours::answer(&given, &mut our_area, &mut our_text);
-    let rule = text::answer(bytes, &mut rule_area, &mut rule_text);
+    let ours = ours::print(&given, &mut our_area, &mut our_text);
+    let rule = text::print(bytes, &mut rule_area, &mut rule_text);
     input.same_answer(ours, rule);
     input.same_words("text area", &our_text, &rule_text);
     input.same_words("state area", &our_area, &rule_area);
@@ -72,7 +72,7 @@ fn all_calls(random: &mut Random, tally: &mut Tally, bytes: &[u8]) {
     let words = area_words(random, bytes);
     walks(random, tally, bytes, words);
     if random.chance(50) {
-        answers(random, tally, bytes, words);
+        prints(random, tally, bytes, words);
     }
 }
 

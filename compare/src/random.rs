@@ -2,6 +2,7 @@
 use crate::rule::model::{groups, numbers, written, Bound, Edge, Model};
 use crate::rule::numbers::{number, MARK};
 use crate::rule::sets;
+use crate::rule::text::TEXT;
 
 pub struct Random {
     state: u64,
@@ -45,6 +46,14 @@ impl Random {
     pub fn filled_bytes(&mut self, count: usize) -> Vec<u8> {
         let first = self.next() as u8;
         (0..count).map(|i| first.wrapping_add(i as u8) | 1).collect()
+    }
+
+    pub fn filled_text(&mut self) -> [u8; TEXT] {
+        self.filled_bytes(TEXT).try_into().expect("a text area")
+    }
+
+    pub fn filled_counts(&mut self) -> [u64; 3] {
+        std::array::from_fn(|_| self.next() | 1)
     }
 }
 

@@ -13,6 +13,7 @@ mod walk;
 mod work;
 
 use model::Model;
+pub use text::TEXT;
 use walk::Verdict;
 
 // Why a call refuses, by its number.
@@ -74,18 +75,18 @@ pub fn rewrite(bytes: &[u8], out: &mut [u8]) -> i64 {
     made(model.read(bytes).and_then(|_| model.write(out)))
 }
 
-// 0 NEVER, 1 REACHED, 2 OPEN; the counts are edges or depth, kept, tried.
+// 0 NEVER, 1 REACHED, 2 OPEN; the counts are edges or depth, kept, tried; a refusal leaves them.
 pub fn walk(bytes: &[u8], area: &mut [i32], counts: &mut [u64; 3]) -> i64 {
     let (answer, figures) = match walk::walk(bytes, area) {
         Ok(Verdict::Never { kept, tried }) => (0, [0, kept, tried]),
         Ok(Verdict::Reached { edges, kept, tried }) => (1, [edges, kept, tried]),
         Ok(Verdict::Open { depth, kept, tried }) => (2, [depth, kept, tried]),
-        Err(refusal) => (-(refusal as i64), [0; 3]),
+        Err(refusal) => return -(refusal as i64),
     };
     *counts = figures.map(|figure| figure as u64);
     answer
 }
 
-pub fn answer(bytes: &[u8], area: &mut [i32], text: &mut [u8]) -> i64 {
-    made(text::answer(bytes, area, text))
+pub fn print(bytes: &[u8], area: &mut [i32], text: &mut [u8; TEXT]) -> i64 {
+    text::print(bytes, area, text) as i64
 }

@@ -153,20 +153,18 @@ pub fn walked_over(bytes: &[u8], area: &mut [i32]) -> Result<(Model, Walked), Re
     Ok((model, walked))
 }
 
-// 0 NEVER, 1 REACHED, 2 OPEN, or the refusal's number below 0; the counts are edges or depth, kept, tried.
-pub fn walk(bytes: &[u8], area: &mut [i32], counts: &mut [u64]) -> i64 {
-    let (answer, figures) = match walked_over(bytes, area) {
-        Err(refusal) => (-refusal, [0; 3]),
-        Ok((_, walked)) => {
-            let (answer, first) = match walked.verdict {
-                Verdict::Never => (0, 0),
-                Verdict::Reached(edges) => (1, edges),
-                Verdict::Open(depth) => (2, depth),
-            };
-            (answer, [first, walked.kept.len(), walked.tried])
-        }
+// 0 NEVER, 1 REACHED, 2 OPEN, or the refusal's number below 0; counts are edges or depth, kept, tried, or as before.
+pub fn walk(bytes: &[u8], area: &mut [i32], counts: &mut [u64; 3]) -> i64 {
+    let walked = match walked_over(bytes, area) {
+        Err(refusal) => return -refusal,
+        Ok((_, walked)) => walked,
     };
-    counts[..3].copy_from_slice(&figures.map(|figure| figure as u64));
+    let (answer, first) = match walked.verdict {
+        Verdict::Never => (0, 0),
+        Verdict::Reached(edges) => (1, edges),
+        Verdict::Open(depth) => (2, depth),
+    };
+    *counts = [first, walked.kept.len(), walked.tried].map(|figure| figure as u64);
     answer
 }
 

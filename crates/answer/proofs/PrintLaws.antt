@@ -2,21 +2,19 @@
 use mathlib.Core.List.{List, [], _++_, append-nil}
 use mathlib.Core.Logic.{_⊎_, inl, inr}
 use mathlib.Core.Path.{_≡_, refl, sym, ap, _∙_, subst}
-use Prim.Native.Nat.{ℕ, _-_, _≤_, _<_}
+use Prim.Native.Nat.{ℕ, _-_, _≤_}
 use native.Mathlib.Omega.{arith}
 use lib.IntN.{ℤ}
 use lib.ListN.{length}
-use borrow.Author.Tests.{lt-ltb, le-ltb}
 use denote.Enum.Declared.{tagOf}
 use Rattle.numbers.specs.Refusals.{refusalNumber}
 use Rattle.numbers.specs.declared.Refusal.{Refusal}
-use Rattle.numbers.specs.declared.Refusal.the-variants.{Shape}
 use Rattle.numbers.proofs.RefusalLaws.{number-range}
 use Rattle.codec.specs.declared.Step.{Step}
 use Rattle.codec.specs.declared.Step.the-variants.{At, Refused as Stopped}
 use Rattle.codec.proofs.Step.{the-type}
 use Rattle.codec.specs.Answers.{Writes, Room, whyStep}
-use Rattle.codec.specs.Arrays.{each}
+use Rattle.codec.specs.Arrays.{each, AreBytes}
 use Rattle.codec.proofs.WriteLaws.{put-start, wrote-then, room-first, room-next}
 use Rattle.runs.specs.Verdicts.{Answer, reached, refused, answerBy}
 use Rattle.runs.specs.declared.Verdict.{Verdict}
@@ -31,9 +29,9 @@ use Rattle.model.specs.Plain.{plain}
 use Rattle.walk.specs.Walks.{Walked, walkedOf, keptSaid, pathIn, WalksModel}
 use Rattle.printing.specs.Text.{Stop, headOf, lineOf, linesOf, textOf}
 use Rattle.printing.proofs.TextSize.{head-long}
-use Rattle.answer.specs.declared.Printed.the-variants.{Text, Refused as PrintRefused}
 use Rattle.answer.specs.Printed.{stopsOf, textFor, textOver, printedOf, Prints}
 use Rattle.answer.specs.Shown.{Printable, Lines, PrintsModel}
+use Rattle.answer.proofs.Saying.{text-says}
 use Rattle.answer.proofs.WalkedText.{ShownBy, Legible, refused-long, walked-legible}
 
 -- ---- a model that is walked
@@ -115,25 +113,21 @@ module _ (m : Model) (limits : ModelLimits m) (before : List ℤ) (v : Verdict) 
 pub refused-fits : {text : List ℕ} (e : Refusal) → 397 ≤ length text → Room 0 (headOf (answerBy (Refused e))) text
 refused-fits e r = record { fits = omega (arith, head-long (refused (refusalNumber e)) (number-range e .1)) }
 
-module _ (bytes : List ℕ) (area : List ℤ) (text : List ℕ) where
-  -- the text area is too short
-  pub prints-short : length text < 397 → Prints bytes area text (PrintRefused Shape) area text
-  prints-short h = record { is = unfold printedOf in rw (lt-ltb (length text) 397 h) }
-
+module _ (bytes : List ℕ) (are : AreBytes bytes) (area : List ℤ) (text : List ℕ) where
   -- what is said, by what was read
   prints-said : {o : Said Model} {area′ : List ℤ} {text′ : List ℕ} {end : ℕ} → 397 ≤ length text → readOf bytes ≡ o
       → length (textFor o (walkedOf o area)) ≤ 397 → area′ ≡ walkedOf o area .area
-      → Writes text 0 (textFor o (walkedOf o area)) text′ end → Prints bytes area text (Text end) area′ text′
+      → Writes text 0 (textFor o (walkedOf o area)) text′ end → Prints bytes area text end area′ text′
   unfolding printedOf textOver
   prints-said {o} {end = end} r e f a w =
       let said : end ≡ length (textFor o (walkedOf o area)) = omega (arith, w .ends) in
       let stored = w .stored ∙ put-start (textFor o (walkedOf o area)) text (omega arith) in
-      record { is = rw (e, le-ltb (length text) 397 r, a, said, stored) }
+      record { is = rw (e, a, said, stored); means = text-says bytes are area }
 
   -- the bytes are refused
   pub prints-unread : (step : Step) {o : Outline} {e : Refusal} {text′ : List ℕ} {end : ℕ} → 397 ≤ length text
       → ReadsOutline bytes step o → tagOf the-type step ≡ 1 → e ≡ whyStep step
-      → Writes text 0 (headOf (answerBy (Refused e))) text′ end → Prints bytes area text (Text end) area text′
+      → Writes text 0 (headOf (answerBy (Refused e))) text′ end → Prints bytes area text end area text′
   unfolding walkedOf textOf
   prints-unread (At next) r s z f w = absurd (omega (arith, z))
   prints-unread (Stopped x) {text′ = text′} {end = end} r s z f w =
@@ -143,5 +137,5 @@ module _ (bytes : List ℕ) (area : List ℤ) (text : List ℕ) where
 
   -- the bytes are those of a model
   pub prints-read : {m : Model} {area′ : List ℤ} {text′ : List ℕ} {end : ℕ} → 397 ≤ length text → readOf bytes ≡ value m
-      → ModelLimits m → PrintsModel m area text area′ text′ end → Prints bytes area text (Text end) area′ text′
+      → ModelLimits m → PrintsModel m area text area′ text′ end → Prints bytes area text end area′ text′
   prints-read {m} r e l p = prints-said r e (walked-legible m l area .fits) (p .left) (p .wrote)

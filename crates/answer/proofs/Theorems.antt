@@ -1,28 +1,23 @@
 -- What holds of printing an answer.
-use mathlib.Core.Bool.{Bool, true, false, cond}
 use mathlib.Core.List.{List, [], _∷_, _++_}
 use mathlib.Core.Path.{_≡_, refl, sym, ap, _∙_}
 use Prim.Native.Nat.{ℕ, _≤_}
 use native.Mathlib.Omega.{arith}
-use lib.Dec.{ltb}
 use lib.IntN.{ℤ}
 use lib.ListN.{length, take, drop, length-append}
 use Rattle.numbers.specs.Refusals.{refusalNumber}
-use Rattle.numbers.specs.declared.Refusal.the-variants.{Shape, Bytes}
-use Rattle.numbers.proofs.RefusalLaws.{number-inj}
+use Rattle.numbers.specs.declared.Refusal.the-variants.{Bytes}
 use Rattle.codec.specs.Arrays.{AreBytes}
 use Rattle.codec.specs.Form.{readIn}
 use Rattle.codec.specs.Number.{Got, got, refused}
 use Rattle.codec.proofs.RefusalNumbers.{Numbered, numbered, form-numbered}
 use Rattle.codec.proofs.Settled.{writes-settled}
 use Rattle.model.specs.declared.Model.{Model}
-use Rattle.model.specs.Answers.{value, refusal, wholly, readOf}
+use Rattle.model.specs.Answers.{value, wholly, readOf}
 use Rattle.model.specs.Models.{modelForm}
 use Rattle.model.proofs.Theorems.{read-written, first-many}
 use Rattle.walk.specs.Walks.{walkedOf}
-use Rattle.answer.specs.declared.Printed.{Printed}
-use Rattle.answer.specs.declared.Printed.the-variants.{Text, Refused}
-use Rattle.answer.specs.Printed.{textFor, textOver, Answered, printedOf, printedSaid, Prints}
+use Rattle.answer.specs.Printed.{textFor, textOver, Answered, printedOf, Prints}
 use Rattle.answer.specs.Shown.{Printable, Lines, PrintsModel}
 use Rattle.answer.proofs.WalkedText.{refused-long, walked-legible}
 
@@ -40,51 +35,23 @@ text-fits bytes are area = by (readIn modelForm bytes) (form-numbered modelForm 
     by (refused e) (numbered h) f = refused-long [] e h
 
 -- the text that was written lies in its area
-pub text-within : (bytes : List ℕ) (area : List ℤ) (text : List ℕ) (r : Printed) (area′ : List ℤ) (text′ : List ℕ) (k : ℕ)
-    → Prints bytes area text r area′ text′ → r ≡ Text k → k ≤ length text′
+pub text-within : (bytes : List ℕ) (area : List ℤ) (text : List ℕ) (r : ℕ) (area′ : List ℤ) (text′ : List ℕ)
+    → Prints bytes area text r area′ text′ → r ≤ length text′
 unfolding printedOf
-text-within bytes area text r area′ text′ k v e = by (ltb (length text) 397) (v .is)
-  where
-    answer : List ℕ
-    answer = textOver bytes area
-
-    short : Answered
-    short = record { said = refusal (refusalNumber Shape); area = area; text = text }
-
-    full : Answered
-    full = record {
-      said = value (length answer);
-      area = walkedOf (readOf bytes) area .area;
-      text = answer ++ drop (length answer) text;
-    }
-
-    said : value k ≡ printedSaid r
-    said = ap printedSaid (sym e)
-
-    by : (b : Bool) → record { said = printedSaid r; area = area′; text = text′ } ≡ cond b short full → k ≤ length text′
-    by true q = absurd (let p : value k ≡ refusal (refusalNumber Shape) = said ∙ ap (λ (x : Answered). x .said) q in
-        let z : _≡_ {A = ℕ} 0 1 = cc in omega arith)
-    by false q =
-        let p : value k ≡ value (length answer) = said ∙ ap (λ (x : Answered). x .said) q in
-        let c : k ≡ length answer = cc in
-        let t : length text′ ≡ length (answer ++ drop (length answer) text)
-        = ap (λ (x : Answered). length (x .text)) q in
-        omega (arith, c, t, length-append answer (drop (length answer) text))
+text-within bytes area text r area′ text′ v =
+    let answer = textOver bytes area in
+    let c : r ≡ length answer = ap (λ (x : Answered). x .length) (v .is) in
+    let t : length text′ ≡ length (answer ++ drop (length answer) text) = ap (λ (x : Answered). length (x .text)) (v .is) in
+    omega (arith, c, t, length-append answer (drop (length answer) text))
 
 -- ---- the contracts settle the answers
-same-answer : (r q : Printed) → printedSaid r ≡ printedSaid q → r ≡ q
-same-answer (Text a) (Text b) e = ap Text (let q : a ≡ b = cc in q)
-same-answer (Refused a) (Refused b) e = let q : refusalNumber a ≡ refusalNumber b = cc in ap Refused (number-inj a b q)
-same-answer (Text a) (Refused b) e = absurd (let z : _≡_ {A = ℕ} 0 1 = cc in omega arith)
-same-answer (Refused a) (Text b) e = absurd (let z : _≡_ {A = ℕ} 0 1 = cc in omega arith)
-
 -- two answers to the same bytes and areas, and both areas after them, are equal
-pub answer-settled : (bytes : List ℕ) (area : List ℤ) (text : List ℕ) (r q : Printed) (after last : List ℤ)
+pub answer-settled : (bytes : List ℕ) (area : List ℤ) (text : List ℕ) (r q : ℕ) (after last : List ℤ)
     (text′ text″ : List ℕ) → Prints bytes area text r after text′ → Prints bytes area text q last text″
     → (r ≡ q) × (after ≡ last) × (text′ ≡ text″)
 answer-settled bytes area text r q after last text′ text″ v w =
     let e = v .is ∙ sym (w .is) in (
-      same-answer r q (ap (λ (x : Answered). x .said) e),
+      ap (λ (x : Answered). x .length) e,
       ap (λ (x : Answered). x .area) e,
       ap (λ (x : Answered). x .text) e,
     )

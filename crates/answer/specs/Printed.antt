@@ -1,22 +1,18 @@
--- The text of the walk over bytes, and what is left in both areas.
-use mathlib.Core.Bool.{cond}
+-- The text of the walk over bytes, what is left in both areas, and the text for an input with room for 64 states.
 use mathlib.Core.List.{List, [], _++_, map}
 use mathlib.Core.Path.{_≡_}
 use Prim.Native.Nat.{ℕ}
-use lib.Dec.{ltb}
 use lib.IntN.{ℤ}
 use lib.ListN.{length, drop}
-use Rattle.numbers.specs.Refusals.{refusalNumber}
-use Rattle.numbers.specs.declared.Refusal.the-variants.{Shape}
 use Rattle.runs.specs.Models.{System, edge}
+use Rattle.runs.specs.Rule.{walkOf, answerOf, keptBy, lastPath}
 use Rattle.runs.specs.Verdicts.{refused}
 use Rattle.model.specs.Answers.{Said, value, refusal, readOf}
 use Rattle.model.specs.Plain.{plain}
 use Rattle.model.specs.declared.Model.{Model}
 use Rattle.walk.specs.Walks.{Walked, walkedOf, keptSaid, pathIn}
 use Rattle.printing.specs.Text.{Stop, textOf}
-use Rattle.answer.specs.declared.Printed.{Printed}
-use Rattle.answer.specs.declared.Printed.the-variants.{Text, Refused}
+use Rattle.answer.specs.Says.{Says}
 
 -- an edge, and the location that it enters
 abbrev pub stopAt : System → ℕ → Stop
@@ -36,31 +32,37 @@ textFor (refusal e) w = textOf [] (refused e)
 unfoldable pub textOver : List ℕ → List ℤ → List ℕ
 textOver bytes area = textFor (readOf bytes) (walkedOf (readOf bytes) area)
 
--- what is said, and both areas afterwards
+-- ---- with room for 64 states
+-- the text of what was read: the answer of the rule in that room, with its path
+abbrev pub reportFor : Said Model → List ℕ
+reportFor (value m) =
+    let ending = walkOf (plain m) 64 in
+    textOf (stopsOf (plain m .system) (lastPath (keptBy ending))) (answerOf (m .depth) ending)
+reportFor (refusal e) = textOf [] (refused e)
+
+-- the text for an input
+unfoldable pub reportOf : List ℕ → List ℕ
+reportOf bytes = reportFor (readOf bytes)
+
+-- ---- the contract of `answer`
+-- how long the text is, and both areas afterwards
 pub record Answered : Type 0 where
-  pub said : Said ℕ
+  pub length : ℕ
   pub area : List ℤ
   pub text : List ℕ
 
--- SHAPE for a text area shorter than the longest answer, with both areas as they were; else the text's length, the state
--- area as the walk leaves it, and the text with what was behind it
+-- the text's length, the state area as the walk leaves it, and the text with what was behind it
 unfoldable pub printedOf : List ℕ → List ℤ → List ℕ → Answered
 printedOf bytes area text =
     let answer = textOver bytes area in
-    let printed : Answered
-    = record {
-      said = value (length answer);
+    record {
+      length = length answer;
       area = walkedOf (readOf bytes) area .area;
       text = answer ++ drop (length answer) text;
-    } in
-    cond (ltb (length text) 397) (record { said = refusal (refusalNumber Shape); area = area; text = text }) printed
+    }
 
--- an answer as a length or a refusal's number
-abbrev pub printedSaid : Printed → Said ℕ
-printedSaid (Text end) = value end
-printedSaid (Refused e) = refusal (refusalNumber e)
-
--- the contract
-pub record Prints (bytes : List ℕ) (area : List ℤ) (text : List ℕ) (r : Printed) (area′ : List ℤ) (text′ : List ℕ)
-    : Type 0 where
-  pub is : record { said = printedSaid r; area = area′; text = text′ } ≡ printedOf bytes area text
+-- the contract: both areas, and the text means what it says
+pub record Prints (bytes : List ℕ) (area : List ℤ) (text : List ℕ) (r : ℕ) (area′ : List ℤ) (text′ : List ℕ) : Type 0
+  where
+    pub is : record { length = r; area = area′; text = text′ } ≡ printedOf bytes area text
+    pub means : Says bytes (textOver bytes area)

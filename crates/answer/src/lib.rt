@@ -5,14 +5,10 @@ ghost use Rattle.answer.specs.Shown.{Printable, Lines, Ready, PrintsMode
 use codec::Step;
 use model::Outline;
 use model::places;
-use numbers::Refusal;
 use runs::Verdict;
 
-// How long the text is, or why there is none.
-pub enum Printed {
-    Text(usize),
-    Refused(Refusal),
-}
+// The bytes of a text area: room for every answer, of which the longest has 397.
+pub const TEXT: usize = 512;
 
 // The lines of the path to state i: those of its parent, kept before it, and its own.
 fn lines(area: &[i32], n: usize, i: usize, text: &mut [u8], at: usize) -> usize
@@ -45,25 +41,21 @@ fn print(bytes: &[u8], outline: Outline, area: &mut [i32], text: &mut [u8]) -> u
         tried: _,
     } = v
     else {
-        return at;
+        return at; // the first line is all
     };
     lines(area, n, kept - 1, &mut *text, at)
 }
 
-// Writes the text of the walk over bytes; SHAPE for a text area shorter than the longest answer.
-pub fn answer(bytes: &[u8], area: &mut [i32], text: &mut [u8]) -> Printed
+// Writes the text of the walk over bytes, and answers how long it is.
+pub fn answer(bytes: &[u8], area: &mut [i32], text: &mut [u8; TEXT]) -> usize
     ensures { λ r. ⌜ Prints (now (bytes .entry)) (now (area .entry)) (now (text .entry)) r (now (area .exit))
         (now (text .exit)) ⌝ }
 {
-    if text.len() < 397 {
-        return Printed::Refused(Refusal::Shape);
-    }
     let r = places::read_outline(bytes);
     let step = r.step;
     let outline = r.outline;
     let Step::At(_) = step else {
-        return Printed::Text(printing::head(&mut *text, Verdict::Refused(step.why())));
+        return printing::head(text, Verdict::Refused(step.why()));
     };
-    let end = print(bytes, outline, &mut *area, &mut *text);
-    Printed::Text(end)
+    print(bytes, outline, area, text)
 }

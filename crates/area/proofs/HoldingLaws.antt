@@ -5,12 +5,13 @@ use Prim.Native.Nat.{ℕ, zero, suc, _+_, _*_, _≤_, _<_}
 use native.Mathlib.Nat.{suc-mul, zero-mul}
 use native.Mathlib.Omega.{arith}
 use lib.IntN.{ℤ, pos}
-use lib.ListN.{length, getD, drop, length-append, length-drop}
-use lib.Seq.{getD-drop, drop-append-add}
+use lib.ListN.{length, getD, take, drop, length-append, length-drop}
+use lib.Seq.{getD-drop, drop-append-add, take-at}
 use Rattle.sets.specs.Limits.{Whole}
 use Rattle.runs.specs.Rule.{State, stateAt}
 use Rattle.area.specs.Area.{recordSize, recordOf, recordsOf, holding}
-use Rattle.area.proofs.RecordLaws.{size-is, record-size}
+use Rattle.area.specs.Records.{recordAt, stateOf, stateIn}
+use Rattle.area.proofs.RecordLaws.{size-is, record-size, state-back}
 
 -- every kept list is of whole vectors
 abbrev pub AllWhole : ℕ → List State → Type 0
@@ -64,3 +65,12 @@ module _ (n : ℕ) (kept : List State) (whole : AllWhole n kept) (area : List �
   unfolding holding recordOf
   holding-location = let (more, e) = records-from n kept whole (drop (length kept * recordSize n) area) i inside in
       sym (getD-drop (i * recordSize n) (holding n kept area) 0 (pos 0)) ∙ ap (λ (l : List ℤ). getD l 0 (pos 0)) e
+
+  -- the state of record i is read back
+  pub holding-state : stateIn n (holding n kept area) i ≡ stateAt kept i
+  unfolding holding recordAt
+  holding-state = let (more, e) = records-from n kept whole (drop (length kept * recordSize n) area) i inside in
+      let s = stateAt kept i in
+      ap (λ (l : List ℤ). stateOf n (take (recordSize n) l)) e
+      ∙ (ap (stateOf n) (take-at (recordOf n s) more (recordSize n) (record-size n s (whole i inside)))
+      ∙ state-back n s (whole i inside))

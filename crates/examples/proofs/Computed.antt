@@ -38,8 +38,10 @@ use Rattle.runs.specs.Verdicts.{answerBy}
 use Rattle.area.specs.Area.{recordSize, recordOf, recordsOf, holding, roomOf, areaAfter}
 use Rattle.runs.proofs.Meaning.{and-true}
 use Rattle.walk.specs.Walks.{walkedOf}
+use Rattle.printing.specs.Text.{digits, decimal, spaced, lineOf, textOf}
+use Rattle.answer.specs.Printed.{reportOf}
 use Rattle.walk.proofs.Theorems.{walk-meets}
-use Rattle.examples.specs.Rows.{Row, contains, included, intersect, delay, reset, hull, in-bytes, no-number, fold, walk}
+use Rattle.examples.specs.Rows.{Row, contains, included, intersect, delay, reset, hull, in-bytes, no-number, fold, walk, prints}
 use Rattle.examples.specs.Rows.{Right, AllRight, rows}
 
 -- the result of a rule is the answer and the area expected
@@ -66,6 +68,7 @@ Computes (hull n one other before answer after) = Gives (hullOf n one other befo
 Computes (in-bytes v bytes) = Right (in-bytes v bytes)
 Computes (no-number bytes refusal) = Right (no-number bytes refusal)
 Computes (fold k v) = Right (fold k v)
+Computes (prints bytes text) = Right (prints bytes text)
 Computes (walk bytes before verdict after) =
     (allBytes bytes ≡ true) × (record { answer = answerBy verdict; area = after } ≡ walkedOf (readOf bytes) before)
 
@@ -93,6 +96,7 @@ right (hull n one other before answer after) e =
 right (in-bytes v bytes) e = e
 right (no-number bytes refusal) e = e
 right (fold k v) e = e
+right (prints bytes text) e = e
 right (walk bytes before verdict after) e = walk-meets bytes (are-bytes bytes (e .0)) before verdict after (e .1)
 
 -- of every row of a list
@@ -121,7 +125,8 @@ unfolding rows containsOf containsChecked includedOf includedChecked inside hasP
     halfForm boundForm boundsForm recordSize recordOf recordsOf holding roomOf areaAfter
     fitted cut delayed resetTo0 Rule.included cutAll resetAll entering following Rule.covered pathsOn pathOf lastPath inTurn
     test keep judge tryEdge expand layer layers walkTo walkOf answerOf
+    reportOf textOf lineOf spaced decimal digits
 examples-right = all-right rows (
     (refl, refl) ▹ (refl, refl) ▹ (refl, refl) ▹ refl ▹ refl ▹ (refl, refl) ▹ refl ▹ refl ▹ (refl, refl) ▹ refl
-    ▹ (refl, refl) ▹ (refl, refl) ▹ (refl, refl) ▹ (refl, refl) ▹ (refl, refl)
+    ▹ (refl, refl) ▹ (refl, refl) ▹ (refl, refl) ▹ (refl, refl) ▹ (refl, refl) ▹ refl ▹ refl ▹ (refl, refl)
     ▹ (refl, refl) ▹ (refl, refl) ▹ (refl, refl) ▹ refl ▹ refl ▹ tt)

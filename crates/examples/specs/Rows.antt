@@ -16,11 +16,12 @@ use Rattle.making.specs.declared.Made.the-variants.{Vectors, Refused}
 use Rattle.runs.specs.declared.Verdict.{Verdict}
 use Rattle.runs.specs.declared.Verdict.the-variants.{Reached, Never, Open}
 use Rattle.walk.specs.Walks.{Walks}
+use Rattle.answer.specs.Printed.{reportOf}
 use Rattle.codec.specs.Number.{got, refused, bytesOf, numberIn, folded}
 
 -- a call with its arguments, then the answer; where a set is made, the area, the answer and the area afterwards;
 -- a number and its bytes; bytes that are no number, and the refusal; a signed number and what it is folded to;
--- a model's bytes, the state area, the verdict of the walk and the area afterwards
+-- a model's bytes, the state area, the verdict of the walk and the area afterwards; a model's bytes and what is printed
 pub data Row : Type 0 where
   contains : ℕ → List ℤ → List ℤ → Told → Row
   included : ℕ → List ℤ → List ℤ → Told → Row
@@ -32,6 +33,7 @@ pub data Row : Type 0 where
   no-number : List ℕ → ℕ → Row
   fold : ℤ → ℕ → Row
   walk : List ℕ → List ℤ → Verdict → List ℤ → Row
+  prints : List ℕ → List ℕ → Row
 
 -- a row is right if the call's contract allows the answer and the area afterwards
 abbrev pub Right : Row → Type 0
@@ -45,6 +47,7 @@ Right (in-bytes v bytes) = (bytesOf v ≡ bytes) × (numberIn bytes ≡ got v []
 Right (no-number bytes refusal) = numberIn bytes ≡ refused refusal
 Right (fold k v) = folded k ≡ v
 Right (walk bytes before verdict after) = Walks bytes before verdict after
+Right (prints bytes text) = reportOf bytes ≡ text
 
 -- every row of a list is right
 abbrev pub AllRight : List Row → Type 0
@@ -115,6 +118,26 @@ bothKept =
     ++ (pos 1 ∷ pos 0 ∷ pos 1 ∷ pos 3 ∷ pos 0 ∷ pos 0 ∷ pos 0 ∷ pos 6 ∷ pos 6 ∷ pos 0 ∷ pos 10 ∷ pos 6 ∷ pos 0 ∷ replicate 87 (pos 0))
     ++ replicate 50 (pos 7)
 
+-- ---- a model in whose first layer two states are kept
+-- one clock, four locations without bounds, edges 0 to 1, 0 to 2, 2 to 3, 1 to 3, target 3
+abbrev fork : List ℕ
+fork =
+    1 ∷ 4 ∷ 4 ∷ 0 ∷ 0 ∷ 0 ∷ 0 ∷ 0 ∷ 0 ∷ 1 ∷ 0 ∷ 0 ∷ 0 ∷ 2 ∷ 0 ∷ 0 ∷ 2 ∷ 3 ∷ 0 ∷ 0 ∷ 1 ∷ 3 ∷ 0 ∷ 0 ∷ 3 ∷ 0 ∷ 8 ∷ []
+
+-- the record of a state with point 0 and ray 0
+abbrev anytime : ℕ → ℤ → ℤ → List ℤ
+anytime location parent edge =
+    pos location ∷ parent ∷ edge ∷ pos 2 ∷ pos 0 ∷ pos 0 ∷ pos 0 ∷ mark ∷ replicate 60 (pos 0)
+
+-- an area of four records of 68 words and 8 words more, each 7; state 1 is expanded before state 2, so edge 3 is taken
+abbrev four : List ℤ
+four = replicate 280 (pos 7)
+
+abbrev fourKept : List ℤ
+fourKept =
+    anytime 0 (negsuc 0) (negsuc 0) ++ anytime 1 (pos 0) (pos 0) ++ anytime 2 (pos 0) (pos 1)
+    ++ anytime 3 (pos 1) (pos 3) ++ replicate 8 (pos 7)
+
 -- the table
 unfoldable pub rows : List Row
 rows =
@@ -142,6 +165,11 @@ rows =
     ∷ walk (model 10 8) states (Reached 1 2 2) bothKept
     ∷ walk (model 11 8) states (Never 2 2) bothKept
     ∷ walk (model 11 1) states (Open 1 2 2) bothKept
+    -- what is printed of it: REACHED 1 2 2, and the line 1 1; NEVER 2 2
+    ∷ prints (model 10 8) (82 ∷ 69 ∷ 65 ∷ 67 ∷ 72 ∷ 69 ∷ 68 ∷ 32 ∷ 49 ∷ 32 ∷ 50 ∷ 32 ∷ 50 ∷ 10 ∷ 49 ∷ 32 ∷ 49 ∷ 10 ∷ [])
+    ∷ prints (model 11 8) (78 ∷ 69 ∷ 86 ∷ 69 ∷ 82 ∷ 32 ∷ 50 ∷ 32 ∷ 50 ∷ 10 ∷ [])
+    -- a layer with two states to expand, in order
+    ∷ walk fork four (Reached 2 4 3) fourKept
     -- 11: numbers as bytes
     ∷ in-bytes 127 (127 ∷ [])
     ∷ in-bytes 128 (128 ∷ 1 ∷ [])

@@ -1,18 +1,15 @@
 -- What the calls behind the boundary give: counts that fit, and bytes read and written back.
-use mathlib.Core.Bool.{Bool, true, false, cond}
-use mathlib.Core.List.{List, _++_}
+use mathlib.Core.List.{List}
 use mathlib.Core.Path.{_≡_, refl, sym, ap, _∙_}
 use Prim.Native.Nat.{ℕ, _≤_}
 use native.Mathlib.Omega.{arith}
-use lib.Dec.{ltb}
 use lib.IntN.{ℤ}
-use lib.ListN.{length, drop}
 use borrow.Author.Tests.{lt-ltb, le-ltb}
 use denote.Enum.Declared.{tagOf}
 use Rattle.numbers.specs.Integers.{hi}
 use Rattle.numbers.specs.Refusals.{refusalNumber}
 use Rattle.numbers.specs.declared.Refusal.{Refusal}
-use Rattle.numbers.specs.declared.Refusal.the-variants.{Shape, Gens}
+use Rattle.numbers.specs.declared.Refusal.the-variants.{Gens}
 use Rattle.algebra.specs.Sets.{Set}
 use Rattle.sets.specs.Demands.{Input}
 use Rattle.making.specs.declared.Made.{Made}
@@ -28,9 +25,7 @@ use Rattle.model.specs.declared.Model.{Model}
 use Rattle.model.specs.Answers.{Said, value, refusal, readOf, readingSaid, ReadsModel, Stands}
 use Rattle.model.specs.Answers.{WritesModel, outside, short, wrote}
 use Rattle.model.proofs.Theorems.{size}
-use Rattle.walk.specs.Walks.{walkedOf}
-use Rattle.answer.specs.declared.Printed.{Printed}
-use Rattle.answer.specs.Printed.{Answered, textOver, printedOf, printedSaid, Prints}
+use Rattle.answer.specs.Printed.{Answered, printedOf, Prints}
 use Rattle.answer.proofs.Theorems.{text-fits}
 use Rattle.exports.specs.Exported.{minus, madeNumber, saidNumber, rewrittenOf, Rewrites}
 use Rattle.exports.proofs.NumberLaws.{not-above}
@@ -51,28 +46,11 @@ written-fits m before after s (short l h a e) = rw e (omega arith)
 written-fits m before after s (wrote l h a e) = rw e (size m l)
 
 -- a text has at most 397 bytes
-pub printed-fits : (bytes : List ℕ) → AreBytes bytes → (area : List ℤ) (text : List ℕ) (r : Printed) (area′ : List ℤ)
-    (text′ : List ℕ) → Prints bytes area text r area′ text′ → hi (saidNumber (printedSaid r)) ≤ 33664
+pub printed-fits : (bytes : List ℕ) → AreBytes bytes → (area : List ℤ) (text : List ℕ) (r : ℕ) (area′ : List ℤ)
+    (text′ : List ℕ) → Prints bytes area text r area′ text′ → r ≤ 33664
 unfolding printedOf
 printed-fits bytes are area text r area′ text′ v =
-    by (ltb (length text) 397) (ap (λ (x : Answered). x .said) (v .is))
-  where
-    answer : List ℕ
-    answer = textOver bytes area
-
-    refuses : Answered
-    refuses = record { said = refusal (refusalNumber Shape); area = area; text = text }
-
-    prints : Answered
-    prints = record {
-      said = value (length answer);
-      area = walkedOf (readOf bytes) area .area;
-      text = answer ++ drop (length answer) text;
-    }
-
-    by : (b : Bool) → printedSaid r ≡ cond b refuses prints .said → hi (saidNumber (printedSaid r)) ≤ 33664
-    by true e = rw e (omega arith)
-    by false e = rw e (omega (arith, text-fits bytes are area))
+    omega (arith, ap (λ (x : Answered). x .length) (v .is), text-fits bytes are area)
 
 -- ---- values
 -- a reset to the same value

@@ -7,9 +7,8 @@ use Rattle.sets.specs.declared.Told.{Told}
 use Rattle.sets.proofs.Asking.{contains-settled, included-settled}
 use Rattle.making.specs.declared.Made.{Made}
 use Rattle.making.proofs.Settled.{intersect-settled, delay-settled, reset-settled, hull-settled}
-use Rattle.runs.specs.Verdicts.{answerBy}
+use Rattle.runs.specs.Verdicts.{Answer, answerBy}
 use Rattle.walk.proofs.Theorems.{walk-settled}
-use Rattle.answer.specs.declared.Printed.{Printed}
 use Rattle.answer.proofs.Theorems.{answer-settled}
 use Rattle.exports.specs.Exported.{answerNumber, countsOf, Numbered, ContainsNumbered, IncludedNumbered}
 use Rattle.exports.specs.Exported.{IntersectsNumbered, DelaysNumbered, ResetsNumbered, HullsNumbered}
@@ -55,21 +54,21 @@ pub rewrite-numbered : (s before : List ℕ) (r q : ℤ) (after last : List ℕ)
 rewrite-numbered s before r q after last v w =
     let e = v ∙ sym w in (ap (λ (x : Rewritten). x .number) e, ap (λ (x : Rewritten). x .area) e)
 
-pub walk-numbered : (s : List ℕ) (before : List ℤ) (r q : ℤ) (after last : List ℤ) (counts others : List ℕ)
-    → WalksNumbered s before r after counts → WalksNumbered s before q last others
-    → (r ≡ q) × (after ≡ last) × (counts ≡ others)
-walk-numbered s before r q after last counts others v w =
+pub walk-numbered : (s : List ℕ) (before : List ℤ) (earlier : List ℕ) (r q : ℤ) (after last : List ℤ)
+    (counts others : List ℕ) → WalksNumbered s before earlier r after counts
+    → WalksNumbered s before earlier q last others → (r ≡ q) × (after ≡ last) × (counts ≡ others)
+walk-numbered s before earlier r q after last counts others v w =
     let both = walk-settled s before (v .verdict) (w .verdict) after last (v .gives) (w .gives) in
     let answers = ap answerBy (both .0) in (
       v .is ∙ ap answerNumber answers ∙ sym (w .is),
       both .1,
-      v .counted ∙ ap countsOf answers ∙ sym (w .counted),
+      v .counted ∙ ap (λ (a : Answer). countsOf a earlier) answers ∙ sym (w .counted),
     )
 
-pub answer-numbered : (s : List ℕ) (area : List ℤ) (text : List ℕ) (r q : ℤ) (after last : List ℤ)
+pub print-numbered : (s : List ℕ) (area : List ℤ) (text : List ℕ) (r q : ℤ) (after last : List ℤ)
     (text′ text″ : List ℕ) → PrintsNumbered s area text r after text′ → PrintsNumbered s area text q last text″
     → (r ≡ q) × (after ≡ last) × (text′ ≡ text″)
-answer-numbered s area text r q after last text′ text″ v w =
-    let both = numbers-settled Printed _ _ _ ((after ≡ last) × (text′ ≡ text″)) r q
+print-numbered s area text r q after last text′ text″ v w =
+    let both = numbers-settled ℕ _ _ _ ((after ≡ last) × (text′ ≡ text″)) r q
     (λ a b x y. let t = answer-settled s area text a b after last text′ text″ x y in (t .0, (t .1, t .2))) v w in
     (both .0, both .1 .0, both .1 .1)

@@ -19,8 +19,7 @@ use Rattle.runs.specs.declared.Verdict.{Verdict}
 use Rattle.model.specs.Answers.{Said, value, refusal, readOf}
 use Rattle.model.specs.declared.Model.{Model}
 use Rattle.walk.specs.Walks.{Walks}
-use Rattle.answer.specs.declared.Printed.{Printed}
-use Rattle.answer.specs.Printed.{printedSaid, Prints}
+use Rattle.answer.specs.Printed.{Prints}
 
 -- ---- the number of an answer
 -- a refusal: minus its number
@@ -50,12 +49,12 @@ answerNumber (reached edges kept tried) = pos 1
 answerNumber (open-to depth kept tried) = pos 2
 answerNumber (refused number) = minus number
 
--- its counts: edges or depth, kept, tried
-abbrev pub countsOf : Answer → List ℕ
-countsOf (never kept tried) = 0 ∷ kept ∷ tried ∷ []
-countsOf (reached edges kept tried) = edges ∷ kept ∷ tried ∷ []
-countsOf (open-to depth kept tried) = depth ∷ kept ∷ tried ∷ []
-countsOf (refused number) = 0 ∷ 0 ∷ 0 ∷ []
+-- its counts: edges or depth, kept, tried; a refusal leaves those that were there
+abbrev pub countsOf : Answer → List ℕ → List ℕ
+countsOf (never kept tried) before = 0 ∷ kept ∷ tried ∷ []
+countsOf (reached edges kept tried) before = edges ∷ kept ∷ tried ∷ []
+countsOf (open-to depth kept tried) before = depth ∷ kept ∷ tried ∷ []
+countsOf (refused number) before = before
 
 -- ---- the contracts
 -- r is the number of an answer that the call may give
@@ -99,12 +98,12 @@ abbrev pub Rewrites : List ℕ → List ℕ → ℤ → List ℕ → Type 0
 Rewrites bytes before r after = record { number = r; area = after } ≡ rewrittenOf (readOf bytes) bytes before
 
 -- the counts are those of the verdict that is numbered
-pub record WalksNumbered (bytes : List ℕ) (before : List ℤ) (r : ℤ) (after : List ℤ) (counts : List ℕ) : Type 0 where
+pub record WalksNumbered (bytes : List ℕ) (before : List ℤ) (earlier : List ℕ) (r : ℤ) (after : List ℤ)
+    (counts : List ℕ) : Type 0 where
   pub verdict : Verdict
   pub gives : Walks bytes before verdict after
   pub is : r ≡ answerNumber (answerBy verdict)
-  pub counted : counts ≡ countsOf (answerBy verdict)
+  pub counted : counts ≡ countsOf (answerBy verdict) earlier
 
 abbrev pub PrintsNumbered : List ℕ → List ℤ → List ℕ → ℤ → List ℤ → List ℕ → Type 0
-PrintsNumbered bytes area text r area′ text′ =
-    Numbered Printed (λ a. Prints bytes area text a area′ text′) (λ a. saidNumber (printedSaid a)) r
+PrintsNumbered bytes area text r area′ text′ = Numbered ℕ (λ k. Prints bytes area text k area′ text′) pos r

@@ -6,11 +6,10 @@ ghost use Rattle.numbers.specs.Integers.{hi};
 ghost use Rattle.numbers.specs.Refusals.{refusalNumber};
 ghost use Rattle.runs.specs.Verdicts.{answerBy};
 ghost use Rattle.model.specs.Answers.{writtenSaid};
-ghost use Rattle.answer.specs.Printed.{printedSaid};
 ghost use Rattle.exports.specs.Exported.{minus, toldNumber, madeNumber, saidNumber, answerNumber, countsOf};
 ghost use Rattle.exports.specs.Exported.{ContainsNumbered, IncludedNumbered, IntersectsNumbered, DelaysNumbered};
 ghost use Rattle.exports.specs.Exported.{ResetsNumbered, HullsNumbered, Rewrites, WalksNumbered, PrintsNumbered};
-use answer::Printed;
+use answer::TEXT;
 use codec::Step;
 use making::Made;
 use model::Written;
@@ -66,17 +65,6 @@ fn written(answer: Written) -> i64
     }
 }
 
-// The answer of `answer`: the text's length, or the refusal.
-fn printed(answer: Printed) -> i64
-    requires { ⌜ hi (saidNumber (printedSaid answer)) ≤ 33664 ⌝ }
-    ensures { λ r. ⌜ r ≡ saidNumber (printedSaid answer) ⌝ }
-{
-    match answer {
-        Printed::Text(k) => count(k),
-        Printed::Refused(e) => refused(e),
-    }
-}
-
 // The answer of the walk: 0 for NEVER, 1 for REACHED, 2 for OPEN, or the refusal.
 fn walked(v: Verdict) -> i64
     ensures { λ r. ⌜ r ≡ answerNumber (answerBy v) ⌝ }
@@ -97,15 +85,15 @@ fn walked(v: Verdict) -> i64
     }
 }
 
-// Its counts: edges or depth, kept, tried.
-fn counts_of(v: Verdict) -> [u64; 3]
-    ensures { λ r. ⌜ r ≡ countsOf (answerBy v) ⌝ }
+// Its counts: edges or depth, kept, tried; a refusal has none, and leaves those that were there.
+fn counts_of(v: Verdict, earlier: [u64; 3]) -> [u64; 3]
+    ensures { λ r. ⌜ r ≡ countsOf (answerBy v) earlier ⌝ }
 {
     match v {
         Verdict::Never { kept, tried } => [0, kept as u64, tried as u64],
         Verdict::Reached { edges, kept, tried } => [edges as u64, kept as u64, tried as u64],
         Verdict::Open { depth, kept, tried } => [depth as u64, kept as u64, tried as u64],
-        Verdict::Refused(_) => [0, 0, 0],
+        Verdict::Refused(_) => earlier,
     }
 }
 
@@ -185,19 +173,21 @@ pub extern "C" fn scionwheel_rewrite(bytes: &[u8], out: &mut [u8]) -> i64
 // Walks a model: 0 for NEVER, 1 for REACHED, 2 for OPEN, and the answer's numbers in `counts`.
 #[no_mangle]
 pub extern "C" fn scionwheel_walk(bytes: &[u8], area: &mut [i32], counts: &mut [u64; 3]) -> i64
-    ensures { λ r. ⌜ WalksNumbered (now (bytes .entry)) (now (area .entry)) r (now (area .exit)) (now (counts .exit)) ⌝ }
+    ensures { λ r. ⌜ WalksNumbered (now (bytes .entry)) (now (area .entry)) (now (counts .entry)) r (now (area .exit))
+        (now (counts .exit)) ⌝ }
 {
     let v = walk::walk(bytes, area);
-    *counts = counts_of(v);
+    let earlier = *counts;
+    *counts = counts_of(v, earlier);
     walked(v)
 }
 
 // The printed answer for a model: its length.
 #[no_mangle]
-pub extern "C" fn scionwheel_answer(bytes: &[u8], area: &mut [i32], text: &mut [u8]) -> i64
+pub extern "C" fn scionwheel_print(bytes: &[u8], area: &mut [i32], text: &mut [u8; TEXT]) -> i64
     ensures { λ r. ⌜ PrintsNumbered (now (bytes .entry)) (now (area .entry)) (now (text .entry)) r (now (area .exit))
         (now (text .exit)) ⌝ }
 {
-    let answer = answer::answer(bytes, area, text);
-    printed(answer)
+    let length = answer::answer(bytes, area, text);
+    count(length)
 }

@@ -3,3 +3,4 @@ pub mod NumberText
 pub mod HeadText
 pub mod TextSize
 pub mod Computed
+pub mod UniqueText

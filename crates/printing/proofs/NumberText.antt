@@ -12,11 +12,12 @@ use Rattle.printing.specs.Text.{digit, digits, decimal}
 use Rattle.printing.proofs.WordText.{any-byte}
 
 -- one step, and more steps than n are enough
-last-digit : (k n : ℕ) → n < 10 → digits (suc k) n ≡ digit n ∷ []
+pub last-digit : (k n : ℕ) → n < 10 → digits (suc k) n ≡ digit n ∷ []
 unfolding digits
 last-digit k n h = simp (lt-ltb _ _ h)
 
-next-digit : (k n : ℕ) → 10 ≤ n → digits (suc k) n ≡ digits k (n / 10) ++ (digit (n % 10) ∷ [])
+-- a digit more
+pub next-digit : (k n : ℕ) → 10 ≤ n → digits (suc k) n ≡ digits k (n / 10) ++ (digit (n % 10) ∷ [])
 unfolding digits
 next-digit k n h = simp (le-ltb _ _ h)
 

@@ -113,3 +113,22 @@ closed-never S m location list c k = none-reach S m location list deep (suc k) c
           (c .candidates i e a f g v h);
       target = c .target;
     }
+
+-- lists that are the same up to their count are closed alike
+pub closed-alike : (S : System) (m : ℕ) (location place : ℕ → ℕ) (list row : ℕ → List ℤ)
+    → ((i : ℕ) → i < m → place i ≡ location i) → ((i : ℕ) → i < m → row i ≡ list i)
+    → Closed S m location list → Closed S m place row
+closed-alike S m location place list row p r c = record {
+  start = λ v h. alike (c .start v h);
+  candidates = λ i e l f s v h. alike (c .candidates i e l f (s ∙ p i l) v
+      (subst (λ (x : List ℤ). Entered S (edge S e .destination) (Crossed S (edge S e) (Has (S .clocks) x)) v) (r i l) h));
+  target = λ i l s v h. c .target i l (sym (p i l) ∙ s) v (subst (λ (x : List ℤ). Has (S .clocks) x v) (r i l) h);
+}
+  where
+    alike : {q : ℕ} {v : Values} → Among S m location list q v → Among S m place row q v
+    alike {v = v} a = record {
+      i = a .i;
+      inside = a .inside;
+      at = p (a .i) (a .inside) ∙ a .at;
+      has = subst (λ (x : List ℤ). Has (S .clocks) x v) (sym (r (a .i) (a .inside))) (a .has);
+    }

@@ -13,7 +13,7 @@ use Rattle.numbers.proofs.Tells.{tells-eqb, clash}
 use Rattle.runs.specs.Models.{System, Model, SystemLimits, ModelLimits, invariant, edge}
 use Rattle.runs.specs.Runs.{Values, numbers, zeroed, Fits, Run, start, follow, ReachesWith}
 use Rattle.runs.specs.Verdicts.{SaysReached, SaysNever, SaysOpen, Means}
-use Rattle.runs.specs.Closure.{Has, Entered, Crossed, AtZero}
+use Rattle.runs.specs.Closure.{Has, Entered, Crossed, AtZero, Among, Closed}
 use Rattle.runs.specs.Rule.{Step, made, stop, isEmpty, included, cutAll, enter, candidate, State, stateAt}
 use Rattle.runs.specs.Rule.{covered}
 use Rattle.runs.specs.Rule.{zeros, pathOf, lastPath, Walk, Outcome, going, met, stopped, nothing, keeping, trying}
@@ -25,7 +25,7 @@ use Rattle.runs.proofs.Loops.{Ends, goes, meets, stops, ends-map, ends-
 use Rattle.runs.proofs.Paths.{at-old, at-new, path-old, path-new, path-child}
 use Rattle.runs.proofs.ProperLists.{Proper, zeros-proper, zeros-values, empty-none, full-some}
 use Rattle.runs.proofs.StepLaws.{values-long, included-yes}
-use Rattle.runs.proofs.Covering.{Within, Done, none-reach}
+use Rattle.runs.proofs.Covering.{Within, Done, none-reach, closed-never}
 use Rattle.runs.proofs.Entering.{Yields, cuts-yield, enter-yields, candidate-yields, enter-run}
 
 -- ---- tests
@@ -102,6 +102,13 @@ module _ (S : System) (limits : SystemLimits S) (room : ℕ) where
   -- the values are in a state of location q to which at most d edges lead
   abbrev In : List State → ℕ → ℕ → Values → Type 0
   In kept d q v = Within S (length kept) (location kept) (list kept) (deep kept) d q v
+
+  -- the kept states are closed
+  abbrev ClosedStates : List State → Type 0
+  ClosedStates kept = Closed S (length kept) (location kept) (list kept)
+
+  among : (kept : List State) {d q : ℕ} {v : Values} → In kept d q v → Among S (length kept) (location kept) (list kept) q v
+  among kept w = record { i = w .i; inside = w .inside; at = w .at; has = w .has }
 
   -- the candidates of state i over edge e are covered
   abbrev DoneAt : List State → ℕ → ℕ → Type 0
@@ -497,18 +504,20 @@ module _ (S : System) (limits : SystemLimits S) (room : ℕ) where
       new = λ i l r. absurd (omega arith);
     }
 
-    -- nothing new was kept: no run reaches the target
-    closed-none : length (w .kept) ≡ m → SaysNever S
-    closed-none e k = none-reach S (length (w .kept)) (location (w .kept)) (list (w .kept)) (deep (w .kept)) k (record {
-      base = u .inv .base;
-      candidates = λ i f l s g h. unfold ClosedAt in all-closed i (omega arith) f g h;
+    -- nothing new was kept: the kept states are closed
+    closed-none : length (w .kept) ≡ m → ClosedStates (w .kept)
+    unfolding ClosedAt Done
+    closed-none e = record {
+      start = λ v h. among (w .kept) (u .inv .base v h);
+      candidates = λ i f l g h v c. among (w .kept) (all-closed i (omega arith) f g h v c);
       target = λ i l. u .inv .fine i l .clear;
-    }) k (omega arith)
+    }
 
   -- ---- the whole walk
+  -- under NEVER the kept states are closed
   abbrev Says : ℕ → Ending → Type 0
   Says depth (ends-reached w) = SaysReached S (lastPath (w .kept)) (length (lastPath (w .kept)))
-  Says depth (ends-never w) = SaysNever S
+  Says depth (ends-never w) = ClosedStates (w .kept)
   Says depth (ends-open w) = SaysOpen S depth
   Says depth (ends-refused e) = Unit {0}
 
@@ -561,12 +570,12 @@ module _ (S : System) (limits : SystemLimits S) (room : ℕ) where
     })
 
     -- an empty state 0: no run at all
-    first-none : isEmpty l ≡ true → SaysNever S
-    first-none e k = none-reach S 0 (λ i. 0) (λ i. []) (λ i. 0) k (record {
-      base = λ v h. absurd (empty-none n l e (numbers v) (first-has v h));
+    first-none : isEmpty l ≡ true → ClosedStates []
+    first-none e = record {
+      start = λ v h. absurd (empty-none n l e (numbers v) (first-has v h));
       candidates = λ i f a. absurd (omega arith);
       target = λ i a. absurd (omega arith);
-    }) k (omega arith)
+    }
 
     -- no edge leads to it
     first-path : pathOf (zeroth S l ∷ []) 0 ≡ []
@@ -632,7 +641,7 @@ module _ (S : System) (limits : SystemLimits S) (room : ℕ) where
   right-means : (depth : ℕ) (r : Ending) → Says depth r → Means S (lastPath (keptBy r)) (answerOf depth r)
   unfolding answerOf
   right-means depth (ends-reached w) h = h
-  right-means depth (ends-never w) h = h
+  right-means depth (ends-never w) h = closed-never S (length (w .kept)) (location (w .kept)) (list (w .kept)) h
   right-means depth (ends-open w) h = h
   right-means depth (ends-refused e) h = h
 
@@ -647,3 +656,10 @@ walk-means M h room = right-means (M .system) (h .system) room (M .depth) (walkT
 pub walk-sound : (M : Model) → ModelLimits M → (room : ℕ) → Every (Sound (M .system)) (keptBy (walkOf M room))
 unfolding walkOf
 walk-sound M h room = walk-right (M .system) (h .system) room (M .depth) .sound
+
+-- the states kept by a walk that ended in NEVER are closed
+pub walk-closed : (M : Model) → ModelLimits M → (room : ℕ) (w : Walk) → walkOf M room ≡ ends-never w
+    → Closed (M .system) (length (w .kept)) (λ i. stateAt (w .kept) i .location) (λ i. stateAt (w .kept) i .list)
+unfolding walkOf
+walk-closed M h room w e =
+    subst (Says (M .system) (h .system) room (M .depth)) e (walk-right (M .system) (h .system) room (M .depth) .says)

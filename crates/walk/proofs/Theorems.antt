@@ -10,19 +10,25 @@ use borrow.Author.Tests.{lt-ltb, le-ltb}
 use Rattle.numbers.specs.Refusals.{refusalNumber}
 use Rattle.numbers.specs.declared.Refusal.the-variants.{Shape}
 use Rattle.codec.specs.Arrays.{AreBytes}
-use Rattle.runs.specs.Rule.{Ending, ends-reached, ends-never, ends-open, ends-refused, keptBy, lastPath, walkOf, answerOf}
+use Rattle.runs.specs.Closure.{Closed}
+use Rattle.runs.specs.Rule.{State, Ending, ends-reached, ends-never, ends-open, ends-refused, keptBy, lastPath, walkOf, answerOf}
 use Rattle.runs.specs.Verdicts.{Answer, reached, never, open-to, refused, answerBy, Means}
 use Rattle.runs.specs.declared.Verdict.{Verdict}
 use Rattle.runs.specs.declared.Verdict.the-variants.{Reached, Never, Open, Refused}
 use Rattle.runs.proofs.Counts.{EndsOrderly, walk-orderly}
+use Rattle.runs.proofs.Covering.{closed-alike}
+use Rattle.runs.proofs.Meaning.{walk-sound, walk-closed}
 use Rattle.runs.proofs.Settled.{verdict-settled}
 use Rattle.runs.proofs.Stable.{Final, models-stable}
 use Rattle.model.specs.declared.Model.{Model}
 use Rattle.model.specs.Answers.{value, readOf}
 use Rattle.model.specs.Plain.{plain}
-use Rattle.model.proofs.PlainLimits.{edges-many}
+use Rattle.model.specs.Limits.{ModelLimits}
+use Rattle.model.proofs.PlainLimits.{edges-many, model-plain}
 use Rattle.model.proofs.Theorems.{read-written, first-many}
 use Rattle.area.specs.Area.{recordSize, roomOf, areaAfter}
+use Rattle.area.specs.Records.{stateIn}
+use Rattle.area.proofs.HoldingLaws.{AllWhole, holding-state}
 use Rattle.area.proofs.RecordLaws.{room-one, room-some}
 use Rattle.walk.specs.Walks.{Walked, endingOf, walkedOf, pathIn, keptSaid, withDepth, WalksModel, Walks}
 use Rattle.walk.proofs.WalkLaws.{ending-path, shown-means}
@@ -60,12 +66,14 @@ module _ (m : Model) (before : List ℤ) where
   abbrev n : ℕ
   n = m .clocks
 
-  big-walk : recordSize n ≤ length before → walkedOf (value m) before
+  -- an area with a record is walked over
+  pub big-walk : recordSize n ≤ length before → walkedOf (value m) before
       ≡ record { answer = answerOf (m .depth) (endingOf m before); area = areaAfter n (endingOf m before) before }
   unfolding walkedOf
   big-walk h = rw (le-ltb (length before) (recordSize n) h)
 
-  small-walk : length before < recordSize n → walkedOf (value m) before
+  -- an area under one record is refused
+  pub small-walk : length before < recordSize n → walkedOf (value m) before
       ≡ record { answer = refused (refusalNumber Shape); area = before }
   unfolding walkedOf
   small-walk h = rw (lt-ltb (length before) (recordSize n) h)
@@ -110,24 +118,33 @@ module _ (m : Model) (before : List ℤ) where
         by (Refused x) c (ends-refused f) e = c
 
 -- ---- the rule meets the contract
+-- what the rule's answer says of runs, with the path that its area shows
+pub walked-means : (m : Model) → ModelLimits m → (before : List ℤ)
+    → Means (plain m .system) (pathIn (m .clocks) (walkedOf (value m) before .area) (keptSaid (walkedOf (value m) before .answer)))
+    (walkedOf (value m) before .answer)
+walked-means m h before = by (decLt (length before) (recordSize (m .clocks)))
+  where
+    Meant : Walked → Type 0
+    Meant w = Means (plain m .system) (pathIn (m .clocks) (w .area) (keptSaid (w .answer))) (w .answer)
+
+    by : Dec (length before < recordSize (m .clocks)) → Meant (walkedOf (value m) before)
+    by (yes l) = subst Meant (sym (small-walk m before l)) tt
+    by (no l) = subst Meant (sym (big-walk m before (omega (arith, l))))
+        (shown-means m h (roomOf (m .clocks) before) before (endingOf m before) refl)
+
+-- an answer and an area that are the rule's meet the contract
 pub walk-meets : (s : List ℕ) → AreBytes s → (before : List ℤ) (v : Verdict) (after : List ℤ)
     → record { answer = answerBy v; area = after } ≡ walkedOf (readOf s) before → Walks s before v after
 walk-meets s bytes before v after rule = record {
   rule = rule;
-  means = λ m read. by m read (decLt (length before) (recordSize (m .clocks)));
+  means = λ m read. subst (Meant m) (sym (at m read)) (walked-means m (read-written s m bytes read .limits) before);
 }
   where
     at : (m : Model) → readOf s ≡ value m → record { answer = answerBy v; area = after } ≡ walkedOf (value m) before
     at m read = rule ∙ ap (λ r. walkedOf r before) read
 
-    Meant : Model → Answer → List ℤ → Type 0
-    Meant m a after = Means (plain m .system) (pathIn (m .clocks) after (keptSaid a)) a
-
-    by : (m : Model) → readOf s ≡ value m → Dec (length before < recordSize (m .clocks)) → Meant m (answerBy v) after
-    by m read (yes h) = subst (λ (w : Walked). Meant m (w .answer) (w .area)) (sym (at m read ∙ small-walk m before h)) tt
-    by m read (no h) = subst (λ (w : Walked). Meant m (w .answer) (w .area))
-        (sym (at m read ∙ big-walk m before (omega (arith, h))))
-        (shown-means m (read-written s m bytes read .limits) (roomOf (m .clocks) before) before (endingOf m before) refl)
+    Meant : Model → Walked → Type 0
+    Meant m w = Means (plain m .system) (pathIn (m .clocks) (w .area) (keptSaid (w .answer))) (w .answer)
 
 -- ---- stable
 -- two calls whose models differ only in the depth, d ≤ d′, and whose areas have room r ≤ r′: where the first answers
@@ -209,3 +226,38 @@ walk-counts s m bytes read before v after w = by (decLt (length before) (recordS
 pub walk-first : (s : List ℕ) (k : ℕ) (before : List ℤ) → 33665 ≤ k
     → walkedOf (readOf (take k s)) before ≡ walkedOf (readOf s) before
 walk-first s k before h = ap (λ r. walkedOf r before) (first-many s k h)
+
+-- ---- a NEVER's area is closed
+-- the states in the area of a walk that ended in NEVER: the start is in them, no candidate leaves them, none meets the
+-- target
+pub never-closed : (s : List ℕ) (m : Model) → AreBytes s → readOf s ≡ value m → (before : List ℤ) (k t : ℕ)
+    (after : List ℤ) → Walks s before (Never k t) after
+    → Closed (plain m .system) k (λ i. stateIn (m .clocks) after i .location) (λ i. stateIn (m .clocks) after i .list)
+unfolding answerOf areaAfter
+never-closed s m bytes read before k t after w = by (endingOf m before) refl
+    (ended m before s read (Never k t) after w big) (left m before s read (Never k t) after w big)
+  where
+    n : ℕ
+    n = m .clocks
+
+    big : recordSize n ≤ length before
+    big = certain-big m before s read (Never k t) after w tt
+
+    ClosedIn : ℕ → List ℤ → Type 0
+    ClosedIn k area = Closed (plain m .system) k (λ i. stateIn n area i .location) (λ i. stateIn n area i .list)
+
+    by : (o : Ending) → endingOf m before ≡ o → never k t ≡ answerOf (m .depth) o → after ≡ areaAfter n o before
+        → ClosedIn k after
+    by (ends-never w) e q a =
+        let limits = model-plain m (read-written s m bytes read .limits) in
+        let whole : AllWhole n (w .kept)
+        = subst (λ (o : Ending). AllWhole n (keptBy o)) e (λ i l. walk-sound (plain m) limits (roomOf n before) i l .proper .whole) in
+        let many : length (w .kept) ≡ k = cc in
+        subst (λ (j : ℕ). ClosedIn j after) many (subst (ClosedIn (length (w .kept))) (sym a)
+        (closed-alike (plain m .system) (length (w .kept)) _ _ _ _
+        (λ i l. ap (λ (x : State). x .location) (holding-state n (w .kept) whole before i l))
+        (λ i l. ap (λ (x : State). x .list) (holding-state n (w .kept) whole before i l))
+        (walk-closed (plain m) limits (roomOf n before) w e)))
+    by (ends-reached w) e q a = absurd (let z : _≡_ {A = ℕ} 0 1 = cc in omega arith)
+    by (ends-open w) e q a = absurd (let z : _≡_ {A = ℕ} 0 1 = cc in omega arith)
+    by (ends-refused x) e q a = absurd (let z : _≡_ {A = ℕ} 0 1 = cc in omega arith)

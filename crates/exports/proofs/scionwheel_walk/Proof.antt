@@ -17,7 +17,7 @@ same-length c = search needs
 
 returns : tie.Need-returns
 returns c =
-    let x = c .before .before .before in
+    let x = c .before .before .before .before in
     record {
       verdict = x .walk .result;
       gives = x .walk .ensures;
