@@ -10,7 +10,9 @@ use Rattle.runs.specs.Verdicts.{Answer, reached, never, open-to, refused, Means
 use Rattle.model.specs.declared.Model.{Model}
 use Rattle.model.specs.Answers.{Said, value, refusal, readOf}
 use Rattle.model.specs.Plain.{plain}
+use Rattle.model.specs.Bytes.{plainOf}
 use Rattle.model.proofs.Theorems.{read-written}
+use Rattle.model.proofs.PlainBytes.{saidMap, plain-read}
 use Rattle.walk.specs.Walks.{walkedOf, pathIn, keptSaid}
 use Rattle.walk.proofs.Theorems.{walked-means}
 use Rattle.printing.specs.Text.{Stop, neverWord, textOf}
@@ -71,7 +73,7 @@ unfolding textOver
 text-says bytes are area = by (readOf bytes) refl
   where
     of : {P : System → Type 0} (m : Model) → readOf bytes ≡ value m → P (plain m .system) → OfModel bytes P
-    of m read h = record { model = m; read = read; holds = h }
+    of m read h = record { model = plain m; read = plain-read bytes ∙ ap (saidMap plain) read; holds = h }
 
     by : (o : Said Model) → readOf bytes ≡ o → Says bytes (textFor o (walkedOf o area))
     by (value m) read =
@@ -98,5 +100,8 @@ says-alike {s} {t} text e h = record {
   opens = λ d k n q. alike (h .opens d k n q);
 }
   where
+    same : plainOf t ≡ plainOf s
+    same = plain-read t ∙ (ap (saidMap plain) (sym e) ∙ sym (plain-read s))
+
     alike : {P : System → Type 0} → OfModel s P → OfModel t P
-    alike o = record { model = o .model; read = sym e ∙ o .read; holds = o .holds }
+    alike o = record { model = o .model; read = same ∙ o .read; holds = o .holds }

@@ -7,7 +7,8 @@ use lib.IntN.{ℤ, pos, negsuc}
 use lib.ListN.{length, length-append}
 use Rattle.codec.specs.Arrays.{All}
 use Rattle.codec.proofs.PackedLaws.{all-behind}
-use Rattle.runs.specs.Models.{System, SystemLimits}
+use Rattle.runs.specs.Models.{System}
+use Rattle.runs.specs.ModelLimits.{SystemLimits}
 use Rattle.runs.specs.Rule.{State, stateAt, pathOf}
 use Rattle.runs.proofs.Entering.{edge-limits}
 use Rattle.runs.proofs.Located.{Leads, Located}

@@ -3,18 +3,16 @@ use mathlib.Core.List.{List, [], _++_, map}
 use mathlib.Core.Path.{_≡_}
 use Prim.Native.Nat.{ℕ}
 use Rattle.codec.specs.Arrays.{All}
-use Rattle.runs.specs.Models.{System, edge}
+use Rattle.runs.specs.Models.{System, Model, edge}
 use Rattle.runs.specs.Verdicts.{reached, open-to, SaysReached, SaysNever, SaysOpen}
-use Rattle.model.specs.declared.Model.{Model}
-use Rattle.model.specs.Answers.{value, readOf}
-use Rattle.model.specs.Plain.{plain}
+use Rattle.model.specs.Bytes.{value, plainOf}
 use Rattle.printing.specs.Text.{Stop, neverWord, textOf}
 
 -- the bytes are those of a model, of whose system P holds
 pub record OfModel (bytes : List ℕ) (P : System → Type 0) : Type 0 where
   pub model : Model
-  pub read : readOf bytes ≡ value model
-  pub holds : P (plain model .system)
+  pub read : plainOf bytes ≡ value model
+  pub holds : P (model .system)
 
 -- a run along exactly the edges of these lines reaches the target, none with fewer does, and each line has the location
 -- that its edge enters

@@ -3,6 +3,7 @@ pub mod FoldLaws
 pub mod NumberBytes
 pub mod FormLaws
 pub mod ArrayLaws
+pub mod AlikeForms
 pub mod PackedLaws
 pub mod WriteLaws
 pub mod NumberTrip

@@ -10,7 +10,8 @@ use Rattle.numbers.specs.declared.Refusal.the-variants.{Model}
 use Rattle.codec.specs.Number.{Got, got, refused, numberIn}
 use Rattle.codec.specs.Form.{Form, done, ask, fault, below, readIn}
 use Rattle.codec.proofs.FormLaws.{Finds, onto}
-use Rattle.model.specs.Models.{positive, counted}
+use Rattle.model.specs.Bytes.{counted}
+use Rattle.model.specs.Models.{positive}
 
 counted-then : {A : Type 0} (m : ℕ) (k : ℕ → Form A) (s : List ℕ)
     → readIn (ask m (λ v. positive v (k v))) s ≡ onto (λ v t. readIn (k v) t) (readIn (counted m) s)

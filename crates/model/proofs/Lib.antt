@@ -7,5 +7,6 @@ pub mod ReadLaws
 pub mod StoreLaws
 pub mod Theorems
 pub mod PlainLimits
+pub mod PlainBytes
 pub mod PlaceLaws
 pub mod SurveyLaws

@@ -14,8 +14,8 @@ use Rattle.algebra.specs.Vectors.{entry}
 use Rattle.sets.specs.Limits.{Loose}
 use Rattle.sets.proofs.FlatLaws.{in-range}
 use Rattle.runs.specs.Models.{invariant, edge, noEdge}
-use Rattle.runs.specs.Models.{SideLimits, DifferenceLimits, BoundLimits, All, BoundsLimits, Rising, EdgeLimits}
-use Rattle.runs.specs.Models.{ModelLimits}
+use Rattle.runs.specs.ModelLimits.{SideLimits, DifferenceLimits, BoundLimits, All, BoundsLimits, Rising, EdgeLimits}
+use Rattle.runs.specs.ModelLimits.{ModelLimits}
 use Rattle.runs.proofs.Loops.{cond-case}
 use Rattle.codec.specs.Arrays.{All as Each}
 use Rattle.codec.proofs.PackedLaws.{check-each}
@@ -30,7 +30,8 @@ use Rattle.bounds.proofs.LimitLaws.{not-negative}
 use Rattle.model.specs.declared.Edge.{Edge as EdgeRecord}
 use Rattle.model.specs.declared.Model.{Model as ModelRecord}
 use Rattle.model.specs.Limits.{EdgeLimits as EdgeFits, ModelLimits as ModelFits}
-use Rattle.model.specs.Plain.{boundBy, boundsOf, clocksOf, edgeOf, plain}
+use Rattle.model.specs.Bytes.{clocksOf}
+use Rattle.model.specs.Plain.{boundBy, boundsOf, edgeOf, plain}
 
 -- ---- lists
 -- what holds of each item holds of what f makes of it

@@ -1,5 +1,5 @@
 -- What reading and writing a model answer, as the rules' numbers and values.
-use mathlib.Core.List.{List, [], _∷_, _++_}
+use mathlib.Core.List.{List, _++_}
 use mathlib.Core.Path.{_≡_}
 use Prim.Native.Nat.{ℕ, _≤_, _<_}
 use lib.ListN.{length, drop}
@@ -8,25 +8,14 @@ use Rattle.numbers.specs.declared.Refusal.{Refusal}
 use Rattle.numbers.specs.declared.Refusal.the-variants.{Shape, Bytes, Model as Field}
 use Rattle.codec.specs.declared.Step.{Step}
 use Rattle.codec.specs.declared.Step.the-variants.{At, Refused as Stopped}
-use Rattle.codec.specs.Number.{Got, got, refused}
 use Rattle.codec.specs.Form.{readIn}
 use Rattle.model.specs.declared.Model.{Model}
 use Rattle.model.specs.declared.Written.{Written}
 use Rattle.model.specs.declared.Written.the-variants.{Bytes as Count, Refused}
+pub use Rattle.model.specs.Bytes.{Said, value, refusal, wholly}
 use Rattle.model.specs.Models.{modelForm, noModel}
 use Rattle.model.specs.Limits.{ModelLimits}
 use Rattle.model.specs.Written.{modelBytes}
-
--- a value, or the number of a refusal
-pub data Said (A : Type 0) : Type 0 where
-  value : A → Said A
-  refusal : ℕ → Said A
-
--- what is read must end where the bytes end: bytes after the depth are refused BYTES
-abbrev pub wholly : Got Model → Said Model
-wholly (got m []) = value m
-wholly (got m (b ∷ s)) = refusal (refusalNumber Bytes)
-wholly (refused e) = refusal e
 
 -- the model that bytes stand for, or the refusal of their first fault
 unfoldable pub readOf : List ℕ → Said Model

@@ -1,3 +1,4 @@
+pub mod Bytes
 pub mod Models
 pub mod Limits
 pub mod Written

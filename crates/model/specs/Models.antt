@@ -50,10 +50,6 @@ noModel = assembled noHead noInvariants noEdges noGoal
 abbrev pub positive : {A : Type 0} → ℕ → Form A → Form A
 positive v F = cond (eqb v 0) fault F
 
--- a number below m that is not 0
-abbrev pub counted : ℕ → Form ℕ
-counted m = ask m (λ v. positive v (done v))
-
 -- clocks (1 to 6), locations (1 to 32), edges (0 to 64), initial location
 unfoldable pub headForm : Form Head
 headForm =

@@ -1,8 +1,6 @@
 -- Which plain model, of those that runs are defined over, a record stands for.
-use mathlib.Core.Bool.{cond}
-use mathlib.Core.List.{List, [], _∷_, map}
-use Prim.Native.Nat.{ℕ, zero, suc, _+_, _/_, _%_}
-use lib.Dec.{eqb}
+use mathlib.Core.List.{List, map}
+use Prim.Native.Nat.{ℕ, _+_}
 use lib.IntN.{natAbs}
 use lib.ListN.{take, drop}
 use Rattle.numbers.specs.Words.{number}
@@ -12,6 +10,7 @@ use Rattle.bounds.specs.declared.Kind.{Kind}
 use Rattle.bounds.specs.declared.Kind.the-variants.{AtMost, AtLeast, DifferAtMost, DifferAtLeast, HalfSpace}
 use Rattle.bounds.specs.declared.Bound.{Bound as Record}
 use Rattle.bounds.specs.declared.Bounds.{Bounds}
+use Rattle.model.specs.Bytes.{clocksOf}
 use Rattle.model.specs.declared.Edge.{Edge as EdgeRecord}
 use Rattle.model.specs.declared.Model.{Model as ModelRecord}
 
@@ -27,12 +26,6 @@ boundBy n b HalfSpace =
 -- the first bounds of a list
 abbrev pub boundsOf : ℕ → Bounds → List Bound
 boundsOf n bs = map (λ b. boundBy n b (b .kind)) (take (bs .count) (bs .items))
-
--- the clocks from i on, n of them, whose bits are set
-abbrev pub clocksOf : ℕ → ℕ → ℕ → List ℕ
-clocksOf zero i bits = []
-clocksOf (suc n) i bits =
-    cond (eqb (bits % 2) 1) (i ∷ clocksOf n (i + 1) (bits / 2)) (clocksOf n (i + 1) (bits / 2))
 
 -- an edge
 abbrev pub edgeOf : ℕ → EdgeRecord → Edge

@@ -29,11 +29,13 @@ use Rattle.model.specs.Answers.{Said, value, refusal, readOf, WritesModel, outs
 use Rattle.model.specs.Limits.{ModelLimits}
 use Rattle.model.specs.Written.{modelBytes}
 use Rattle.model.proofs.Theorems.{read-written, written-read, size, first-many, read-settled, write-settled}
+use Rattle.walk.specs.Walks.{walkedOf, Walks}
 use Rattle.walk.proofs.Theorems as walks
 use Rattle.printing.specs.Text.{Stop, textOf}
 use Rattle.answer.specs.Says.{OfModel, SaysLines, Says}
-use Rattle.answer.specs.Printed.{Answered, textOver, reportOf, printedOf, Prints}
-use Rattle.answer.proofs.Theorems.{answer-settled}
+use Rattle.answer.specs.Printed.{Answered, textFor, textOver, reportOf, printedOf, Prints}
+use Rattle.answer.proofs.Saying.{says-alike}
+use Rattle.answer.proofs.Theorems.{answer-settled, answer-first}
 use Rattle.answer.proofs.Reported.{room-full}
 use Rattle.console.specs.Reports.{Begins, Reported, Reports}
 use Rattle.console.proofs.ReportLaws.{report-settled}
@@ -89,6 +91,23 @@ written-back m before after k w = ap readOf (written-start m before after k w) �
     limits (outside l a e) = absurd (let z : _≡_ {A = ℕ} 0 1 = cc in omega arith)
     limits (short l h a e) = l
     limits (wrote l h a e) = l
+
+-- the first bytes of an input
+walked-first : (input : List ℕ) (k : ℕ) → 33665 ≤ k → (before : List ℤ) (v : Verdict) (after : List ℤ)
+    → Walks (take k input) before v after → Walks input before v after
+walked-first s k h before v after w = record {
+  rule = w .rule ∙ walks.walk-first s k before h;
+  means = λ m e. w .means m (first-many s k h ∙ e);
+}
+
+answered-first : (input : List ℕ) (k : ℕ) → 33665 ≤ k → (area : List ℤ) (text : List ℕ) (r : ℕ) (area′ : List ℤ)
+    (text′ : List ℕ) → Prints (take k input) area text r area′ text′ → Prints input area text r area′ text′
+unfolding textOver
+answered-first s k h area text r area′ text′ p = record {
+  is = p .is ∙ answer-first s k area text h;
+  means = subst (Says s) (ap (λ o. textFor o (walkedOf o area)) (first-many s k h))
+      (says-alike (textOver (take k s) area) (first-many s k h) (p .means));
+}
 
 -- ---- runs
 no-run : {S : System} → SaysNever S → NoRun S
@@ -163,7 +182,7 @@ kept = record {
   readWritten = read-back;
   writtenRead = written-back;
   modelSize = size;
-  firstBytes = first-many;
+  firstBytes = record { read = first-many; walk = walked-first; answer = answered-first };
   answerMeans = answer-means;
   programMeans = program-means;
   programRoom = program-room;

@@ -70,12 +70,17 @@ abbrev pub WrittenRead : Type 0
 WrittenRead = (m : Model) (before after : List ℕ) (k : ℕ) → WritesModel m before after (value k)
     → readOf (take k after) ≡ value m
 
--- no model has more than 33,664 bytes, and the first 33,665 bytes of an input give the answer of all of it
+-- no model has more than 33,664 bytes
 abbrev pub ModelSize : Type 0
 ModelSize = (m : Model) → ModelLimits m → length (modelBytes m) ≤ 33664
 
-abbrev pub FirstBytes : Type 0
-FirstBytes = (input : List ℕ) (k : ℕ) → 33665 ≤ k → readOf (take k input) ≡ readOf input
+-- the first 33,665 bytes of an input, or any more, are read, walked and answered as all of it
+pub record FirstBytes : Type 0 where
+  pub read : (input : List ℕ) (k : ℕ) → 33665 ≤ k → readOf (take k input) ≡ readOf input
+  pub walk : (input : List ℕ) (k : ℕ) → 33665 ≤ k → (before : List ℤ) (v : Verdict) (after : List ℤ)
+      → Walks (take k input) before v after → Walks input before v after
+  pub answer : (input : List ℕ) (k : ℕ) → 33665 ≤ k → (area : List ℤ) (text : List ℕ) (r : ℕ) (area′ : List ℤ)
+      (text′ : List ℕ) → Prints (take k input) area text r area′ text′ → Prints input area text r area′ text′
 
 -- ---- 3. what is printed, said of runs
 -- NEVER: no run of any length reaches the target

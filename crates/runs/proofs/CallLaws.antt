@@ -24,7 +24,8 @@ use Rattle.making.specs.Clean.{canonicalOf}
 use Rattle.making.specs.Rules.{Result, refusedBy, rangeOk, finished, makeAfter, shapeOk}
 use Rattle.making.specs.Rules.{intersectChecked, intersectOf, delayChecked, delayOf, resetChecked, resetOf}
 use Rattle.making.proofs.Existence.{canonical-made}
-use Rattle.runs.specs.Models.{Bound, BoundLimits}
+use Rattle.runs.specs.Models.{Bound}
+use Rattle.runs.specs.ModelLimits.{BoundLimits}
 use Rattle.runs.specs.Table.{halfOf}
 use Rattle.runs.specs.Rule.{made, stop, fitted, cut, delayed, resetTo0}
 use Rattle.runs.specs.Shown.{shown}

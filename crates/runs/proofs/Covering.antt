@@ -22,12 +22,12 @@ module _ (S : System) where
       ap (λ y. y ∷ later δ (later t u)) (omega arith) ∙ ap (λ w. (δ + t + x) ∷ w) (later-more δ t u)
 
   -- entering without delay
-  entered-now : {q : ℕ} {A : Values → Type 0} {v : Values} → A v → Fits S (invariant S q) v → Entered S q A v
+  entered-now : {q : ℕ} {A : Values → Type 0} {v : Values} → A v → Fits (invariant S q) v → Entered S q A v
   entered-now {v = v} a h = record { u = v; δ = 0; from = a; before = h; is = later-none v; after = h }
 
   -- and a delay behind it
   entered-later : {q : ℕ} {A : Values → Type 0} {v : Values} (δ : ℕ) → Entered S q A v
-      → Fits S (invariant S q) (later δ v) → Entered S q A (later δ v)
+      → Fits (invariant S q) (later δ v) → Entered S q A (later δ v)
   entered-later δ r h = record {
     u = r .u;
     δ = δ + r .δ;
@@ -57,7 +57,7 @@ module _ (S : System) (m : ℕ) (location : ℕ → ℕ) (list : ℕ → List �
     pub base : (v : Values) → Entered S (S .initial) (AtZero S) v → Within 0 (S .initial) v
     pub candidates : (i e : ℕ) → i < m → deep i < D → e < length (S .edges) → edge S e .source ≡ location i → Done i e
     pub target : (i : ℕ) → i < m → location i ≡ S .target → (v : Values) → Has (S .clocks) (list i) v
-        → ¬ Fits S (S .goal) v
+        → ¬ Fits (S .goal) v
 
   -- the values of a run with d edges: entered from the start, or over an edge from a list with fewer edges
   data Via (d q : ℕ) (v : Values) : Type 0 where
@@ -77,7 +77,7 @@ module _ (S : System) (m : ℕ) (location : ℕ → ℕ) (list : ℕ → List �
         (subst (λ q. Entered S q (Crossed S (edge S e) (Has (S .clocks) (list i))) v → Within (suc (deep i)) q v) k
         (c .candidates i e a (omega arith) f g v) h)
 
-    wait-via : {d q : ℕ} {v : Values} (δ : ℕ) → Fits S (invariant S q) (later δ v) → Via d q v → Via d q (later δ v)
+    wait-via : {d q : ℕ} {v : Values} (δ : ℕ) → Fits (invariant S q) (later δ v) → Via d q v → Via d q (later δ v)
     wait-via δ h (begin e r) = begin e (entered-later S δ r h)
     wait-via δ h (over i e a b f g k r) = over i e a b f g k (entered-later S δ r h)
 

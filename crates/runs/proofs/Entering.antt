@@ -19,10 +19,10 @@ use Rattle.algebra.proofs.Convexity.{convex}
 use Rattle.algebra.proofs.Lists.{spot, spot-last, spot-clock}
 use Rattle.algebra.proofs.Made.{satisfies-iff}
 use Rattle.runs.specs.Models.{Bound, Edge, System, invariant, noEdge, edge}
-use Rattle.runs.specs.Models.{All, Rising, BoundLimits, BoundsLimits, EdgeLimits, SystemLimits}
-use Rattle.runs.specs.Runs.{Values, numbers, later, zeroed, Holds, AllHold, Fits, Run, wait}
+use Rattle.runs.specs.ModelLimits.{All, Rising, BoundLimits, BoundsLimits, EdgeLimits, SystemLimits}
+use Rattle.runs.specs.Runs.{Values, later, zeroed, Holds, Fits, Run, wait}
 use Rattle.runs.specs.Table.{halfOf}
-use Rattle.runs.specs.Closure.{Has, Entered, Crossed}
+use Rattle.runs.specs.Closure.{numbers, Has, Entered, Crossed}
 use Rattle.runs.specs.Rule.{Step, made, stop, _then_, cut, delayed, resetTo0, cutAll, resetAll, entering, following, enter, candidate}
 use Rattle.runs.proofs.TableLaws.{table-means}
 use Rattle.runs.proofs.ProperLists.{Proper}
@@ -52,7 +52,7 @@ later-long : (t : ℕ) (v : Values) → length (later t v) ≡ length v
 later-long t v = length-map v (λ k. t + k)
 
 holds-between : (n : ℕ) (b : Bound) → BoundLimits n b → (v : Values) → length v ≡ n → (δ t : ℕ) → t ≤ δ
-    → Holds n b v → Holds n b (later δ v) → Holds n b (later t v)
+    → Holds b v → Holds b (later δ v) → Holds b (later t v)
 holds-between n b h v e δ t l p q = table-means n (later t v) (later-long t v ∙ e) b h .1
     (satisfies-iff n L R (numbers (later t v)) .1
     (at t .1 (convex n (entry L) (entry R) X t δ l now (at δ .0 afterwards))))
@@ -81,7 +81,7 @@ holds-between n b h v e δ t l p q = table-means n (later t v) (later-long t v �
 
 -- a list of bounds that holds at both ends of a delay holds at every tick between
 pub all-between : (n : ℕ) (bs : List Bound) → All (BoundLimits n) bs → (v : Values) → length v ≡ n → (δ t : ℕ) → t ≤ δ
-    → AllHold n bs v → AllHold n bs (later δ v) → AllHold n bs (later t v)
+    → Fits bs v → Fits bs (later δ v) → Fits bs (later t v)
 all-between n [] h v e δ t l p q = tt
 all-between n (b ∷ bs) h v e δ t l p q =
     (holds-between n b (h .0) v e δ t l (p .0) (q .0), all-between n bs (h .1) v e δ t l (p .1) (q .1))
@@ -103,7 +103,7 @@ pub record Yields (n : ℕ) (t : List ℤ) (P : Values → Type 0) : Type 0 wher
 module _ (n : ℕ) where
   -- a list of bounds leaves the values that they all hold at
   pub cuts-yield : (bs : List Bound) → All (BoundLimits n) bs → (l t : List ℤ) → Proper n l → cutAll n bs l ≡ made t
-      → Yields n t (λ v. Has n l v × AllHold n bs v)
+      → Yields n t (λ v. Has n l v × Fits bs v)
   unfolding cutAll
   cuts-yield [] h l t p e =
       let q : l ≡ t = made-inj e in
@@ -240,7 +240,7 @@ module _ (S : System) (limits : SystemLimits S) where
 
   -- the values entered are those of a run, if the values before the delay are
   pub enter-run : (q : ℕ) (es : List ℕ) (A : Values → Type 0) → ((u : Values) → A u → length u ≡ n)
-      → ((u : Values) → A u → Fits S (invariant S q) u → Run S es q u) → (v : Values) → Entered S q A v → Run S es q v
+      → ((u : Values) → A u → Fits (invariant S q) u → Run S es q u) → (v : Values) → Entered S q A v → Run S es q v
   enter-run q es A long f v h = subst (λ v. Run S es q v) (sym (h .is)) (wait (h .δ) (f (h .u) (h .from) (h .before))
       (λ t l. all-between n (invariant S q) (invariant-limits q) (h .u) (long (h .u) (h .from)) (h .δ) t l (h .before)
-      (subst (λ v. Fits S (invariant S q) v) (h .is) (h .after))))
+      (subst (λ v. Fits (invariant S q) v) (h .is) (h .after))))

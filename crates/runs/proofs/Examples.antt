@@ -3,7 +3,7 @@ use mathlib.Core.List.{[], _∷_}
 use mathlib.Core.Path.{subst₂}
 use Prim.Native.Nat.{ℕ, _≤_}
 use native.Mathlib.Omega.{arith}
-use Rattle.runs.specs.Models.{ModelLimits}
+use Rattle.runs.specs.ModelLimits.{ModelLimits}
 use Rattle.runs.specs.Runs.{Run, start, wait, follow, Reaches}
 use Rattle.runs.specs.Verdicts.{SaysReached, SaysNever, SaysOpen, Means}
 use Rattle.runs.proofs.Computed.{example, computed}

@@ -4,6 +4,7 @@ pub mod Paths
 pub mod Loops
 pub mod Counts
 pub mod Depths
+pub mod HalfSpaces
 pub mod TableLaws
 pub mod ProperLists
 pub mod StepLaws

@@ -8,8 +8,8 @@ use lib.ListN.{length, replicate, length-replicate}
 use Rattle.numbers.specs.Numbers.{fin, million, minusMillion}
 use Rattle.sets.specs.Limits.{Between}
 use Rattle.runs.specs.Models.{Bound, clockAtMost, clockAtLeast, differenceAtMost, differenceAtLeast}
-use Rattle.runs.specs.Models.{Model, noEdge, All, BoundLimits, BoundsLimits, DifferenceLimits, Rising}
-use Rattle.runs.specs.Models.{ModelLimits}
+use Rattle.runs.specs.Models.{Model, noEdge}
+use Rattle.runs.specs.ModelLimits.{All, BoundLimits, BoundsLimits, DifferenceLimits, Rising, ModelLimits}
 
 all-replicate : {A : Type 0} (P : A → Type 0) (x : A) → P x → (k : ℕ) → All P (replicate k x)
 all-replicate P x p zero = tt

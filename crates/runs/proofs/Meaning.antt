@@ -10,10 +10,11 @@ use lib.Dec.{eqb, ltb}
 use lib.IntN.{ℤ, pos}
 use lib.ListN.{length, length-append}
 use Rattle.numbers.proofs.Tells.{tells-eqb, clash}
-use Rattle.runs.specs.Models.{System, Model, SystemLimits, ModelLimits, invariant, edge}
-use Rattle.runs.specs.Runs.{Values, numbers, zeroed, Fits, Run, start, follow, ReachesWith}
+use Rattle.runs.specs.Models.{System, Model, invariant, edge}
+use Rattle.runs.specs.ModelLimits.{SystemLimits, ModelLimits}
+use Rattle.runs.specs.Runs.{Values, zeroed, Fits, Run, start, follow, ReachesWith}
 use Rattle.runs.specs.Verdicts.{SaysReached, SaysNever, SaysOpen, Means}
-use Rattle.runs.specs.Closure.{Has, Entered, Crossed, AtZero, Among, Closed}
+use Rattle.runs.specs.Closure.{numbers, Has, Entered, Crossed, AtZero, Among, Closed}
 use Rattle.runs.specs.Rule.{Step, made, stop, isEmpty, included, cutAll, enter, candidate, State, stateAt}
 use Rattle.runs.specs.Rule.{covered}
 use Rattle.runs.specs.Rule.{zeros, pathOf, lastPath, Walk, Outcome, going, met, stopped, nothing, keeping, trying}
@@ -86,7 +87,7 @@ module _ (S : System) (limits : SystemLimits S) (room : ℕ) where
   record Fine (s : State) (path : List ℕ) : Type 0 where
     proper : Proper n (s .list)
     sound : (v : Values) → Has n (s .list) v → Run S path (s .location) v
-    clear : s .location ≡ S .target → (v : Values) → Has n (s .list) v → ¬ Fits S (S .goal) v
+    clear : s .location ≡ S .target → (v : Values) → Has n (s .list) v → ¬ Fits (S .goal) v
 
   -- ---- what the kept states cover
   abbrev location : List State → ℕ → ℕ
@@ -238,7 +239,7 @@ module _ (S : System) (limits : SystemLimits S) (room : ℕ) where
     tested-ends e (made t) q =
         ends-cond (isEmpty t) (λ h. goes (record { is = refl; fine = fine h })) (λ h. meets (hit h))
       where
-        y : Yields n t (λ v. Has n (z .list) v × Fits S (S .goal) v)
+        y : Yields n t (λ v. Has n (z .list) v × Fits (S .goal) v)
         y = cuts-yield n (S .goal) (limits .goal .each) (z .list) t proper q
 
         fine : isEmpty t ≡ true → Fine z (pathOf (w .kept ++ (z ∷ [])) (length (w .kept)))
@@ -329,12 +330,12 @@ module _ (S : System) (limits : SystemLimits S) (room : ℕ) where
               ∙ values-long n (list kept j) (c .u) (c .from))
 
           cross : (u : Values) → Crossed S (edge S e) (Has n (list kept j)) u
-              → Fits S (invariant S (edge S e .destination)) u
+              → Fits (invariant S (edge S e .destination)) u
               → Run S (pathOf kept j ++ (e ∷ [])) (edge S e .destination) u
           cross u c f = subst (λ u. Run S (pathOf kept j ++ (e ∷ [])) (edge S e .destination) u) (sym (c .is))
               (follow e real (subst (λ q. Run S (pathOf kept j) q (c .u)) (sym leaves)
               (v .fine j here .sound (c .u) (c .from))) (c .opens)
-              (subst (λ u. Fits S (invariant S (edge S e .destination)) u) (c .is) f))
+              (subst (λ u. Fits (invariant S (edge S e .destination)) u) (c .is) f))
 
       -- dropped: its values are in a kept state
       dropped : (isEmpty l || covered n kept (edge S e .destination) l ≡ true) → DoneAt kept j e
@@ -587,10 +588,10 @@ module _ (S : System) (limits : SystemLimits S) (room : ℕ) where
         (enter-run S limits (S .initial) [] (Has n (zeros n)) (λ u a. values-long n (zeros n) u a) begins v
         (first .exact v .0 h))
       where
-        begins : (u : Values) → Has n (zeros n) u → Fits S (invariant S (S .initial)) u → Run S [] (S .initial) u
+        begins : (u : Values) → Has n (zeros n) u → Fits (invariant S (S .initial)) u → Run S [] (S .initial) u
         begins u a f =
             let z = zeros-values n u .0 a in
-            subst (λ u. Run S [] (S .initial) u) (sym z) (start (subst (λ u. Fits S (invariant S (S .initial)) u) z f))
+            subst (λ u. Run S [] (S .initial) u) (sym z) (start (subst (λ u. Fits (invariant S (S .initial)) u) z f))
 
     first-short : length (pathOf (zeroth S l ∷ []) 0) ≡ 0
     first-short = ap (λ (p : List ℕ). length p) first-path

@@ -27,9 +27,10 @@ use Rattle.making.specs.Clean.{canonicalOf}
 use Rattle.making.proofs.Existence.{canonical-made}
 use Rattle.making.proofs.Exact.{intersect-made, delay-made, reset-made}
 use Rattle.making.proofs.WorkingLists.{vectors-long}
-use Rattle.runs.specs.Models.{Bound, BoundLimits}
-use Rattle.runs.specs.Runs.{Values, numbers, later, Holds}
-use Rattle.runs.specs.Closure.{Has}
+use Rattle.runs.specs.Models.{Bound}
+use Rattle.runs.specs.ModelLimits.{BoundLimits}
+use Rattle.runs.specs.Runs.{Values, later, Holds}
+use Rattle.runs.specs.Closure.{numbers, Has}
 use Rattle.runs.specs.Table.{halfOf}
 use Rattle.runs.specs.Rule.{made, fitted, cut, delayed, resetTo0, included, isYes}
 use Rattle.runs.proofs.TableLaws.{table-means}
@@ -120,7 +121,7 @@ set-numbers (k ∷ v) (suc i) = ap (λ x. fin (pos k) ∷ x) (set-numbers v i)
 module _ (n : ℕ) (l : List ℤ) (p : Proper n l) where
   -- a bound
   pub cut-values : (b : Bound) → BoundLimits n b → (t : List ℤ) → cut n (halfOf n b) l ≡ made t
-      → (v : Values) → Has n t v ↔ (Has n l v × Holds n b v)
+      → (v : Values) → Has n t v ↔ (Has n l v × Holds b v)
   cut-values b h t e v = (
     λ s. let i = g .exact (numbers v) .0 s in
         (i .from, table-means n v (values-long n l v (i .from)) b h .1 (i .satisfies)),

@@ -1,13 +1,19 @@
 -- Lists that show that no run reaches the target, whoever found them: the start is in them, no candidate leaves them,
 -- and none meets the target.
-use mathlib.Core.List.{List}
+use mathlib.Core.List.{List, map}
 use mathlib.Core.Path.{_≡_}
 use Prim.Native.Nat.{ℕ, _<_}
-use lib.IntN.{ℤ}
+use lib.IntN.{ℤ, pos}
 use lib.ListN.{length, replicate}
+use Rattle.numbers.specs.Numbers.{fin}
+use Rattle.algebra.specs.Vectors.{Vector}
 use Rattle.algebra.specs.Sets.{setOf}
 use Rattle.runs.specs.Models.{System, Edge, invariant, edge}
-use Rattle.runs.specs.Runs.{Values, numbers, later, zeroed, Fits}
+use Rattle.runs.specs.Runs.{Values, later, zeroed, Fits}
+
+-- the values as a vector of numbers
+abbrev pub numbers : Values → Vector
+numbers v = map (λ k. fin (pos k)) v
 
 -- the clock values in the set of a list of words
 abbrev pub Has : ℕ → List ℤ → Values → Type 0
@@ -19,15 +25,15 @@ module _ (S : System) where
     pub u : Values
     pub δ : ℕ
     pub from : A u
-    pub before : Fits S (invariant S q) u
+    pub before : Fits (invariant S q) u
     pub is : v ≡ later δ u
-    pub after : Fits S (invariant S q) v
+    pub after : Fits (invariant S q) v
 
   -- the values after an edge from values of A, before its destination is entered: guard and resets
   pub record Crossed (e : Edge) (A : Values → Type 0) (v : Values) : Type 0 where
     pub u : Values
     pub from : A u
-    pub opens : Fits S (e .guard) u
+    pub opens : Fits (e .guard) u
     pub is : v ≡ zeroed (e .resets) u
 
   -- all clocks 0
@@ -49,4 +55,4 @@ module _ (S : System) where
           → (v : Values) → Entered (edge S e .destination) (Crossed (edge S e) (Has (S .clocks) (list i))) v
           → Among (edge S e .destination) v
       pub target : (i : ℕ) → i < m → location i ≡ S .target → (v : Values) → Has (S .clocks) (list i) v
-          → ¬ Fits S (S .goal) v
+          → ¬ Fits (S .goal) v

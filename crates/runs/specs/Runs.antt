@@ -2,12 +2,10 @@
 use mathlib.Core.List.{List, [], _∷_, _++_, map}
 use mathlib.Core.Path.{_≡_}
 use Prim.Native.Nat.{ℕ, _+_, _≤_, _<_}
-use lib.IntN.{pos, _-ℤ_}
+use lib.IntN.{ℤ, pos, _+ℤ_, _-ℤ_}
 use lib.ListN.{length, getD, set, replicate}
 use lib.Signed.{_≤ℤ_}
-use Rattle.numbers.specs.Numbers.{fin}
-use Rattle.algebra.specs.Vectors.{Vector}
-use Rattle.algebra.specs.Wanted.{Satisfies}
+use Rattle.numbers.specs.Numbers.{Num, −∞, fin}
 use Rattle.runs.specs.Models.{Bound, clockAtMost, clockAtLeast, differenceAtMost, differenceAtLeast, halfSpace}
 use Rattle.runs.specs.Models.{System, invariant, edge}
 
@@ -15,26 +13,34 @@ use Rattle.runs.specs.Models.{System, invariant, edge}
 abbrev pub Values : Type 0
 Values = List ℕ
 
--- the value of clock x
+-- the value of clock x, and 0 behind the last clock
 abbrev pub clock : Values → ℕ → ℕ
 clock v x = getD v x 0
 
--- the values as a vector of numbers
-abbrev pub numbers : Values → Vector
-numbers v = map (λ k. fin (pos k)) v
+-- the term of entry a at place i of a half-space's side: a + clock i, and the constant behind the clocks by itself
+abbrev pub term : Values → ℕ → ℤ → ℤ
+term v i a = a +ℤ pos (clock v i)
 
--- a bound holds of the values, each kind in its own arithmetic; a half-space as it is written, with −∞
-abbrev pub Holds : ℕ → Bound → Values → Type 0
-Holds n (clockAtMost x k) v = clock v x ≤ k
-Holds n (clockAtLeast x k) v = k ≤ clock v x
-Holds n (differenceAtMost x y k) v = (pos (clock v x) -ℤ pos (clock v y)) ≤ℤ k
-Holds n (differenceAtLeast x y k) v = k ≤ℤ (pos (clock v x) -ℤ pos (clock v y))
-Holds n (halfSpace ab cd) v = Satisfies n ab cd (numbers v)
+-- some term of a side is at least z; an entry −∞ has no term
+pub record Covers (side : List Num) (v : Values) (z : ℤ) : Type 0 where
+  pub place : ℕ
+  pub number : ℤ
+  pub stands : getD side place −∞ ≡ fin number
+  pub above : z ≤ℤ term v place number
+
+-- a bound holds of the values, each kind in its own arithmetic: a half-space if each term on its left is at most some
+-- term on its right
+abbrev pub Holds : Bound → Values → Type 0
+Holds (clockAtMost x k) v = clock v x ≤ k
+Holds (clockAtLeast x k) v = k ≤ clock v x
+Holds (differenceAtMost x y k) v = (pos (clock v x) -ℤ pos (clock v y)) ≤ℤ k
+Holds (differenceAtLeast x y k) v = k ≤ℤ (pos (clock v x) -ℤ pos (clock v y))
+Holds (halfSpace ab cd) v = (i : ℕ) (a : ℤ) → getD ab i −∞ ≡ fin a → Covers cd v (term v i a)
 
 -- every bound of a list holds
-abbrev pub AllHold : ℕ → List Bound → Values → Type 0
-AllHold n [] v = Unit {0}
-AllHold n (b ∷ bs) v = Holds n b v × AllHold n bs v
+abbrev pub Fits : List Bound → Values → Type 0
+Fits [] v = Unit {0}
+Fits (b ∷ bs) v = Holds b v × Fits bs v
 
 -- the values t ticks later
 abbrev pub later : ℕ → Values → Values
@@ -46,10 +52,6 @@ zeroed [] v = v
 zeroed (i ∷ is) v = zeroed is (set v i 0)
 
 module _ (S : System) where
-  -- the bounds hold of the values, in the system's clocks
-  abbrev pub Fits : List Bound → Values → Type 0
-  Fits bs v = AllHold (S .clocks) bs v
-
   -- a run along the edges es that ends in location q with the values v
   pub data Run : List ℕ → ℕ → Values → Type 0 where
     -- it starts in the initial location with all clocks 0 and the invariant true

@@ -11,7 +11,8 @@ use Rattle.making.specs.Calls.{Intersects, Delays, Resets}
 use Rattle.making.specs.Rules.{intersectOf, delayOf, resetOf}
 use Rattle.making.proofs.Rules.{intersect-meets, delay-meets, reset-meets}
 use Rattle.making.proofs.Settled.{intersect-settled, delay-settled, reset-settled}
-use Rattle.runs.specs.Models.{Bound, BoundLimits}
+use Rattle.runs.specs.Models.{Bound}
+use Rattle.runs.specs.ModelLimits.{BoundLimits}
 use Rattle.runs.specs.Rule.{Step, cut, delayed, resetTo0}
 use Rattle.runs.specs.Table.{halfOf}
 use Rattle.runs.proofs.CallLaws.{cut-call, delayed-call, reset-call, cut-good, delayed-good, reset-good}

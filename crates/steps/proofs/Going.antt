@@ -14,7 +14,8 @@ use Rattle.numbers.specs.declared.Refusal.{Refusal}
 use Rattle.making.specs.declared.Made.{Made}
 use Rattle.making.specs.declared.Made.the-variants.{Vectors, Refused}
 use Rattle.bounds.specs.declared.Bound.{Bound}
-use Rattle.model.specs.Plain.{boundBy, clocksOf}
+use Rattle.model.specs.Bytes.{clocksOf}
+use Rattle.model.specs.Plain.{boundBy}
 use Rattle.runs.specs.Models.{Edge, Bound as RuleBound}
 use Rattle.runs.specs.Rule.{Step, made, stop, _then_, cut, delayed, resetTo0, resetAll, cutAll, entering, following}
 use Rattle.runs.specs.Table.{halfOf}

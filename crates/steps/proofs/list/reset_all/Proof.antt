@@ -1,7 +1,7 @@
 use mathlib.Core.Path.{_≡_}
 use Prim.Native.Nat.{_+_, _-_, _/_, _%_, _≤_}
 use native.Mathlib.Omega.{arith}
-use Rattle.model.specs.Plain.{clocksOf}
+use Rattle.model.specs.Bytes.{clocksOf}
 use Rattle.runs.specs.Rule.{resetAll, _then_}
 use Rattle.steps.specs.Working.{front, resetBy}
 use Rattle.steps.proofs.Going.{Going, going-turn, going-next, going-refused, going-done, reset-start, reset-turn, reset-none}
