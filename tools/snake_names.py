@@ -60,6 +60,15 @@ def declared():
     return names
 
 
+def line_turned(line, turn):
+    """A line with its names turned; half-space in a comment is English."""
+    m = re.search(r"(^|\s)(--|//)(\s|$)|^#", line)
+    code, said = (line[: m.start()], line[m.start() :]) if m else (line, "")
+    code = WORD.sub(lambda w: turn.get(w.group(0), w.group(0)), code)
+    said = WORD.sub(lambda w: w.group(0) if w.group(0) == "half-space" else turn.get(w.group(0), w.group(0)), said)
+    return code + said
+
+
 def main():
     names = declared()
     turn = {}
@@ -110,12 +119,12 @@ def main():
         return 1 if bad else 0
     for path in list(files(".antt")) + list(files(".rt")) + list(files(".edit")):
         text = open(path).read()
-        new = WORD.sub(lambda m: turn.get(m.group(0), m.group(0)), text)
+        new = "\n".join(line_turned(line, turn) for line in text.split("\n"))
         if new != text:
             open(path, "w").write(new)
     for path in files(".md"):
         text = open(path).read()
-        new = re.sub(r"`[^`\n]*`", lambda c: WORD.sub(lambda m: turn.get(m.group(0), m.group(0)), c.group(0)), text)
+        new = re.sub(r"`[^`\n]*`", lambda c: WORD.sub(lambda m: m.group(0) if m.group(0) == "half-space" else turn.get(m.group(0), m.group(0)), c.group(0)), text)
         if new != text:
             open(path, "w").write(new)
     return 0

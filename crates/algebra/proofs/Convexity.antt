@@ -11,7 +11,7 @@ use Rattle.algebra.proofs.Entries.{places}
 use Rattle.algebra.proofs.HalfSpace.{Sat, side_le, side_at_lem, side_mono, side_sup}
 use Rattle.algebra.proofs.Delay.{later, later_last, later_clock}
 
--- a half_space_lem that holds at X and after δ holds after every t up to δ
+-- a half-space that holds at X and after δ holds after every t up to δ
 pub convex : (n : ℕ) (a b X : Vec) (t δ : ℕ) → t ≤ δ → Sat (suc n) a b X → Sat (suc n) a b (later n (pos δ) X)
     → Sat (suc n) a b (later n (pos t) X)
 convex n a b X t δ h s0 s1 = side_sup (suc n) a (at t) b_z (places n (λ j. a j ⊗ at t j ≼ b_z) at_last at_clock)

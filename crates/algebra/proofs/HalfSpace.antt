@@ -14,15 +14,15 @@ use Rattle.numbers.proofs.NumberLaws.{▷_mono, ▷_assoc, ▷_fin', ▷_cancel,
 use Rattle.numbers.proofs.NumberLaws.{⊗_mono, ⊗_left_comm, ⊗_comm, ⊗_fin_r, ⊕_l, ⊕_r, ⊕_or, ⨁_le, ⨁_least, ⨁_sup, ⨁_at}
 use Rattle.algebra.proofs.Generation.{Meets, Span, span_self, span_trans, span_pair}
 
--- x satisfies the half_space_lem whose sides are a and b
+-- x satisfies the half-space whose sides are a and b
 abbrev pub Sat : ℕ → Vec → Vec → Vec → Type 0
 Sat d a b x = side_of d a x ≼ side_of d b x
 
--- the vector at which the way from g, which satisfies, to h, which does not, leaves the half_space_lem
+-- the vector at which the way from g, which satisfies, to h, which does not, leaves the half-space
 abbrev pub mixed : ℕ → Vec → Vec → Vec → Vec → Vec
 mixed d a b g h = λ j. (side_of d a h ⊗ g j) ⊕ (side_of d b g ⊗ h j)
 
--- the indices of the family that generates what G generates in the half_space_lem
+-- the indices of the family that generates what G generates in the half-space
 pub data Cut {I : Type 0} (d : ℕ) (a b : Vec) (G : I → Vec) : Type 0 where
   keep : (i : I) → Sat d a b (G i) → Cut d a b G
   mix : (i k : I) → Sat d a b (G i) → ¬ Sat d a b (G k) → Cut d a b G
@@ -125,7 +125,7 @@ mixed_sat d a b g h s = ≼_trans low (side_⊗ d b g (mixed d a b g h) A (λ k 
     low : side_of d a (mixed d a b g h) ≼ A ⊗ B
     low = side_sup d a (mixed d a b g h) (A ⊗ B) (λ j l. each j l (⊕_or (A ⊗ g j) (B ⊗ h j)))
 
--- ---- the half_space_lem
+-- ---- the half-space
 module _ {I : Type 0} (d : ℕ) (a b : Vec) (G : I → Vec) where
   into : (X : Vec) → Span d G X → Sat d a b X → Span d (cut d a b G) X
   into X s sat = record { at = λ j l f. let (i, p) = s.at j l f in one j i p (decide i) }
@@ -187,7 +187,7 @@ module _ {I : Type 0} (d : ℕ) (a b : Vec) (G : I → Vec) where
   cut_span (keep i s) = span_self d G i
   cut_span (mix i k s v) = span_pair d G (side_of d a (G k)) (side_of d b (G i)) i k
 
--- the cut family generates exactly what the family generates in the half_space_lem
+-- the cut family generates exactly what the family generates in the half-space
 pub half_space_lem : {I : Type 0} (d : ℕ) (a b : Vec) (G : I → Vec) (X : Vec)
     → (Span d G X × Sat d a b X) ↔ Span d (cut d a b G) X
 half_space_lem d a b G X = (λ p. into d a b G X p.0 p.1, back)

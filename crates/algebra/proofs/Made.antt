@@ -1,5 +1,5 @@
 -- What the calls make, by lists: when one set lies in another, and which lists have the hull of two sets, the part of
--- a set in a half_space_lem, the set after a delay and after a reset.
+-- a set in a half-space, the set after a delay and after a reset.
 use mathlib.Core.List.{List, [], ◌++◌, map}
 use mathlib.Core.Logic.{◌⊎◌, inl, inr, ◌↔◌}
 use mathlib.Core.Path.{◌≡◌, sym, ◌∙◌, ap, subst}
@@ -90,9 +90,9 @@ hull_exact n A B a b p q x = (to, from)
     from : Hull n (In n A) (In n B) x → In n (A ++ B) x
     from h = h (A ++ B) both (span_in n A (A ++ B) a both (own_l n A B)) (span_in n B (A ++ B) b both (own_r n A B))
 
--- ---- a half_space_lem
+-- ---- a half-space
 
--- a side of a half_space_lem at x is the side over n + 1 places at x with 0 behind it
+-- a side of a half-space at x is the side over n + 1 places at x with 0 behind it
 pub side_is : (n : ℕ) (a x : Vector) → side n a x ≡ side_of (suc n) (entry a) (spot n nought x)
 unfolding side_of ⨁
 side_is n a x = ap (λ z. z ⊕ entry a n) (⨁_ext n (λ j. entry a j ⊗ entry x j) term clock)
@@ -107,7 +107,7 @@ side_is n a x = ap (λ z. z ⊕ entry a n) (⨁_ext n (λ j. entry a j ⊗ entry
     last : term n ≡ entry a n
     last = ap (λ z. entry a n ⊗ z) (spot_last n nought x) ∙ ⊗_nought (entry a n)
 
--- x satisfies a half_space_lem exactly if x with 0 behind it does so over n + 1 places
+-- x satisfies a half-space exactly if x with 0 behind it does so over n + 1 places
 pub satisfies_iff : (n : ℕ) (ab cd x : Vector)
     → Satisfies n ab cd x ↔ Sat (suc n) (entry ab) (entry cd) (spot n nought x)
 satisfies_iff n ab cd x =

@@ -5,7 +5,7 @@ use Rattle.numbers.specs.Words.{number}
 use Rattle.algebra.specs.Vectors.{Vector, entry, PointsAndRays}
 use Rattle.algebra.specs.Sets.{Set, In, Included}
 
--- one side of a half_space_lem at x, the largest of (a + x, b): ab has the n entries of a, then b
+-- one side of a half-space at x, the largest of (a + x, b): ab has the n entries of a, then b
 abbrev pub side : ℕ → Vector → Vector → Num
 side n ab x = ⨁ n (λ j. entry ab j ⊗ entry x j) ⊕ entry ab n
 
@@ -13,7 +13,7 @@ side n ab x = ⨁ n (λ j. entry ab j ⊗ entry x j) ⊕ entry ab n
 abbrev pub Satisfies : ℕ → Vector → Vector → Vector → Type 0
 Satisfies n ab cd x = side n ab x ≼ side n cd x
 
--- the two sides of a half_space_lem of 2(n + 1) words: a and b, then c and d
+-- the two sides of a half-space of 2(n + 1) words: a and b, then c and d
 abbrev pub left : ℕ → List ℤ → Vector
 left n h = map number (take (suc n) h)
 
@@ -21,7 +21,7 @@ left n h = map number (take (suc n) h)
 abbrev pub right : ℕ → List ℤ → Vector
 right n h = map number (drop (suc n) h)
 
--- the vectors of S that satisfy the half_space_lem
+-- the vectors of S that satisfy the half-space
 pub record Intersected (n : ℕ) (S : Set) (ab cd : Vector) (x : Vector) : Type 0 where
   pub from : S x
   pub satisfies : Satisfies n ab cd x

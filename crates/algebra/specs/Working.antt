@@ -10,8 +10,8 @@ unfoldable pub each : (Vector → List Vector) → List Vector → List Vector
 each f [] = []
 each f (v ∷ L) = f v ++ each f L
 
--- ---- half-space: satisfying vectors stay; with each violating one they give where the way leaves the half_space_lem
--- one side of a half_space_lem at a vector of n + 1 entries: at a ray, b and d count as −∞
+-- ---- half-space: satisfying vectors stay; with each violating one they give where the way leaves the half-space
+-- one side of a half-space at a vector of n + 1 entries: at a ray, b and d count as −∞
 unfoldable pub side_at : ℕ → Vector → Vector → Num
 side_at n ab v = side_of (suc n) (entry ab) (entry v)
 

@@ -7,7 +7,7 @@ ghost use Rattle.area.specs.Records.{written, kept, state, Keepable, Stands, Rec
 use sets::Told;
 
 // Where a kept state stands: its location, and from where to where its list goes.
-#[derive(Drop)]
+#[derive(Clone, Copy)]
 pub struct Place {
     pub location: u32,
     pub from: usize,

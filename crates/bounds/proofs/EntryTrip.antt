@@ -1,4 +1,4 @@
--- The round trip of an entry of a half_space_lem.
+-- The round trip of an entry of a half-space.
 use mathlib.Core.Bool.{Bool, true, false, cond}
 use mathlib.Core.List.{List, ◌++◌}
 use mathlib.Core.Path.{◌≡◌, refl, sym, ap, ◌∙◌, subst}

@@ -29,7 +29,7 @@ use Rattle.bounds.specs.Limits.{EntryLimits, KindLimits, BoundLimits}
 use Rattle.bounds.specs.Bounds.{no_half, no_bound}
 use Rattle.bounds.specs.Written.{entry_number, kind_bytes, bound_bytes}
 
--- ---- an entry of a half_space_lem
+-- ---- an entry of a half-space
 module _ (z : ℤ) (f : SFits w32 z) where
   -- the mark is in the limits of an entry
   pub mark_fits : of_z w32 z ≡ 2147483648 → EntryLimits z
@@ -67,7 +67,7 @@ zero_word z f =
       no = λ e q. eqb-false (of_z w32 z) 0 e (ap (of_z w32) q);
     }
 
--- ---- no half_space_lem
+-- ---- no half-space
 pub tells_none : {r : Bool} {half : List ℤ} → Tells r (Packed EntryLimits (pos 0) 14 0 half) → Tells r (half ≡ no_half)
 tells_none = means (λ w. w.unused) packed
   where

@@ -24,11 +24,11 @@ kind_of v =
     (cond (eqb v 2) DifferAtMost
     (cond (eqb v 3) DifferAtLeast HalfSpace)))
 
--- how many entries a half_space_lem over n clocks has
+-- how many entries a half-space over n clocks has
 abbrev pub entry_count : ℕ → ℕ
 entry_count n = (n + 1) * 2
 
--- the words of a bound that has no half_space_lem
+-- the words of a bound that has no half-space
 abbrev pub no_half : List ℤ
 no_half = replicate 14 (pos 0)
 

@@ -10,12 +10,12 @@ use Rattle.bounds.specs.declared.Bound.{Bound}
 use Rattle.bounds.specs.declared.Bounds.{Bounds}
 use Rattle.bounds.specs.Bounds.{kind_number, entry_count}
 
--- the number that an entry of a half_space_lem is written as
+-- the number that an entry of a half-space is written as
 abbrev pub entry_number : Num → ℕ
 entry_number −∞ = 0
 entry_number (fin z) = folded z + 1
 
--- the bytes of an entry of a half_space_lem
+-- the bytes of an entry of a half-space
 unfoldable pub entry_bytes : ℤ → List ℕ
 entry_bytes z = bytes_of (entry_number (number z))
 

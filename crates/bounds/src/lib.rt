@@ -6,8 +6,8 @@ pub mod limits;
 pub mod reader;
 pub mod writer;
 
-// A bound's kind: x ≤ k, x ≥ k, x − y ≤ k, x − y ≥ k, or a whole half_space_lem.
-#[derive(Drop)]
+// A bound's kind: x ≤ k, x ≥ k, x − y ≤ k, x − y ≥ k, or a whole half-space.
+#[derive(Clone, Copy)]
 pub enum Kind {
     AtMost,
     AtLeast,
@@ -17,7 +17,7 @@ pub enum Kind {
 }
 
 // A bound. What its kind leaves unused is 0.
-#[derive(Drop)]
+#[derive(Clone, Copy)]
 pub struct Bound {
     pub x: u32,
     pub y: u32,
@@ -27,7 +27,7 @@ pub struct Bound {
 }
 
 // A list of bounds. What is behind the first `count` is unused.
-#[derive(Drop)]
+#[derive(Clone, Copy)]
 pub struct Bounds {
     pub count: u32,
     pub items: [Bound; 8],

@@ -10,25 +10,25 @@ use crate::{Bound, Bounds, Kind};
 use codec::{Number, Step};
 use numbers::{Refusal, Vector};
 
-#[derive(Drop)]
+#[derive(Clone, Copy)]
 pub struct HalfRead {
     pub step: Step,
     pub half: [i32; 14],
 }
 
-#[derive(Drop)]
+#[derive(Clone, Copy)]
 pub struct BoundRead {
     pub step: Step,
     pub bound: Bound,
 }
 
-#[derive(Drop)]
+#[derive(Clone, Copy)]
 pub struct BoundsRead {
     pub step: Step,
     pub bounds: Bounds,
 }
 
-// The entry of a half_space_lem that a number stands for.
+// The entry of a half-space that a number stands for.
 fn entry_of(v: u32) -> i32
     requires { v < 2000002 }
     ensures { result ≡ entry_of v }
@@ -39,7 +39,7 @@ fn entry_of(v: u32) -> i32
     codec::unfold(v - 1)
 }
 
-// The entries of a half_space_lem.
+// The entries of a half-space.
 fn read_half(s: &[u8], at: usize, count: usize) -> HalfRead
     requires { count ≤ 14 }
     ensures { ReadsAt s.now at (array 14 (pos 0) count entry_form) no_half result.step result.half }
@@ -166,7 +166,7 @@ fn read_differ(s: &[u8], at: usize, n: u32, kind: Kind) -> BoundRead
     }
 }
 
-// Kind 4: a whole half_space_lem.
+// Kind 4: a whole half-space.
 fn read_whole(s: &[u8], at: usize, n: u32) -> BoundRead
     requires { n ≤ 6 }
     ensures { ReadsAt s.now at (half_form n) no_bound result.step result.bound }

@@ -13,7 +13,7 @@ ghost use Rattle.bounds.specs.Written.{half_bytes, bound_bytes, bounds_bytes};
 use crate::{Bound, Bounds, Kind};
 use numbers::Vector;
 
-// The number that an entry of a half_space_lem is written as.
+// The number that an entry of a half-space is written as.
 fn entry_number(z: i32) -> u32
     requires { EntryLimits z }
     ensures { result ≡ entry_number (number z) }
@@ -24,7 +24,7 @@ fn entry_number(z: i32) -> u32
     codec::fold(z) + 1
 }
 
-// The entries of a half_space_lem.
+// The entries of a half-space.
 fn write_half(out: &mut [u8], at: usize, half: [i32; 14], count: usize) -> usize
     requires packed { Packed EntryLimits (pos 0) 14 count half }
     requires room { Room at (each entry_bytes (take count half)) out.old }

@@ -1,4 +1,4 @@
-// The calls over lists: `contains n | list | point`, `included n | inner | outer`, `intersect n area | list | half_space_lem`,
+// The calls over lists: `contains n | list | point`, `included n | inner | outer`, `intersect n area | list | half-space`,
 // `delay n area | list`, `hull n area | first | second`, `reset n area clock | list | value`. The area has 231 words
 // where no number is given.
 use crate::show::FILL;

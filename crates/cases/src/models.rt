@@ -15,7 +15,7 @@ const BLANK: u8 = 7;
 const MOST: usize = 64;
 
 // A change: which field it names, its numbers, and where it ends.
-#[derive(Drop)]
+#[derive(Clone, Copy)]
 struct Change {
     field: usize,
     numbers: [i32; 5],

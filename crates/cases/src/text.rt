@@ -8,21 +8,21 @@ use numbers::Vector;
 const NOWHERE: usize = 18446744073709551615;
 
 // Where a name begins and ends.
-#[derive(Drop)]
+#[derive(Clone, Copy)]
 pub struct Name {
     pub from: usize,
     pub to: usize,
 }
 
 // A word, and where it ends: where it would begin, if there is none.
-#[derive(Drop)]
+#[derive(Clone, Copy)]
 pub struct Word {
     pub value: i32,
     pub end: usize,
 }
 
 // How many words a row has, and where it ends.
-#[derive(Drop)]
+#[derive(Clone, Copy)]
 pub struct Row {
     pub count: usize,
     pub end: usize,

@@ -7,7 +7,7 @@ ghost use Rattle.codec.specs.Answers.{ReadsNumber, why_number, why_step, Writes,
 use numbers::Refusal;
 
 // A number and where the next byte stands, or why there is none.
-#[derive(Drop)]
+#[derive(Clone, Copy)]
 pub enum Number {
     Value { value: u32, next: usize },
     Refused(Refusal),
@@ -26,7 +26,7 @@ impl Number {
 }
 
 // Where a reading ended, or why it is refused. What was read stands beside it.
-#[derive(Drop)]
+#[derive(Clone, Copy)]
 pub enum Step {
     At(usize),
     Refused(Refusal),

@@ -12,7 +12,7 @@ pub const INPUT: usize = 65536;
 const AREA: usize = 14592;
 
 // The bytes that were read, or that a read failed.
-#[derive(Drop)]
+#[derive(Clone, Copy)]
 enum Input {
     Bytes(usize),
     Failed,

@@ -112,7 +112,7 @@ pub extern "C" fn scionwheel_included(n: usize, inner: &[i32], outer: &[i32]) ->
     told(sets::included(n, inner, outer))
 }
 
-// The vectors of the list's set that satisfy the half_space_lem.
+// The vectors of the list's set that satisfy the half-space.
 #[unsafe(no_mangle)]
 pub extern "C" fn scionwheel_intersect(n: usize, list: &[i32], half: &[i32], out: &mut [i32]) -> i64
     ensures { IntersectsNumbered n list.now half.now out.old result out.new }

@@ -238,13 +238,13 @@ hull_ends n l m area =
     ends (Hulls n l m area) (hull_checked n l m area) n (hull_list n (vectors n l) (vectors n m)) area
     (hull_meets n l m area)
 
--- intersection with the half_space_lem h
+-- intersection with the half-space h
 pub intersect_ends : (n : ℕ) (l h area : List ℤ) → Ends (Intersects n l h area) (intersect_checked n l h area) n
     (intersect_list n (left n h) (right n h) (vectors n l)) area
 unfolding intersect_of
 intersect_ends n l h area = ends (Intersects n l h area) (intersect_checked n l h area) n
     (intersect_list n (left n h) (right n h) (vectors n l)) area (intersect_meets n l h area)
 
--- the words of a half_space_lem within its limits
+-- the words of a half-space within its limits
 pub half_each : (n : ℕ) (h : List ℤ) → length h ≡ 2 * suc n → HalfLimits n h → Each 1000000 h
 half_each n h long limits = record { each = λ j l. loose_within (limits j (omega (arith, long))) }

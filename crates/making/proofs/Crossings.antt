@@ -1,4 +1,4 @@
--- The working list of a half_space_lem has exactly the vectors of the cut family.
+-- The working list of a half-space has exactly the vectors of the cut family.
 use mathlib.Core.Bool.{Bool, true, false, cond}
 use mathlib.Core.List.{List, [], ◌∷◌}
 use mathlib.Core.Logic.{◌⊎◌, inl, inr}
@@ -17,7 +17,7 @@ use Rattle.algebra.proofs.Lists.{listed, tab_at}
 use Rattle.making.proofs.Members.{Has, has_none, has_cons, has_head, has_tail, has_each}
 
 module _ (n : ℕ) (ab cd : Vector) where
-  -- the test tells whether a vector satisfies the half_space_lem
+  -- the test tells whether a vector satisfies the half-space
   pub tells_satisfies : (v : Vector) → Tells (satisfies n ab cd v) (Sat (suc n) (entry ab) (entry cd) (entry v))
   unfolding satisfies side_at
   tells_satisfies v = tells_at_most (side_of (suc n) (entry ab) (entry v)) (side_of (suc n) (entry cd) (entry v))

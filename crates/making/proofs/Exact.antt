@@ -30,7 +30,7 @@ pub canonical_same : (n : ℕ) (L : List Vector) → PointsAndRays n L → (x : 
     → In n (canonical_of n L) x ↔ In n L x
 canonical_same n L k x = Iff.trans (canonical_set n L x) (normal_set n L k x)
 
--- ---- the half_space_lem
+-- ---- the half-space
 module _ (n : ℕ) (ab cd : Vector) (L : List Vector) (k : PointsAndRays n L) where
   abbrev Q : List Vector
   Q = intersect_list n ab cd L

@@ -1,4 +1,4 @@
--- The vectors that a half_space_lem makes, put into working memory pair by pair.
+-- The vectors that a half-space makes, put into working memory pair by pair.
 use mathlib.Core.Bool.{cond}
 use mathlib.Core.List.{List, [], ◌∷◌, ◌++◌, map, append-nil}
 use mathlib.Core.Path.{◌≡◌, refl, sym, ◌∙◌, ap, subst}
@@ -66,7 +66,7 @@ up_to_part (suc m) f i h = go (native.Mathlib.Decide.ℕ_discrete i m) (up_to_pa
     go (yes e) r = rw e (omega (arith, length-append (up_to m f) (f m)))
     go (no n) r = omega (arith, r (omega arith), length-append (up_to m f) (f m))
 
--- ---- with the sides at hand it is the list of the half_space_lem
+-- ---- with the sides at hand it is the list of the half-space
 -- index by index with the words of the sides, or by the rule with the sides: the same vectors
 pub crossed_is : (n : ℕ) (ab cd : Vector) (L : List Vector) (ls rs : List ℤ) → Sides n ab L ls → Sides n cd L rs
     → crossed_list n ls rs L ≡ intersect_list n ab cd L
@@ -236,7 +236,7 @@ module _ (n : ℕ) (work : List ℤ) (k : ℕ) (ls rs : List ℤ) (L : List Vect
         → RoomOf n mid (k + 1) (crossings_at n ls rs L i)
     keep_rest mid e r = record { room = rw e (subst (λ (x : ℕ). x * suc n ≤ length work) (omega arith) (whole r)) }
 
--- ---- the two sides of a half_space_lem, as the code lends them
+-- ---- the two sides of a half-space, as the code lends them
 module _ (n : ℕ) (half : List ℤ) (e : length half ≡ 2 * suc n) where
   -- the left side: the first n + 1 words
   pub left_is : take (n + 1) half ≡ part half 0 (n + 1)
@@ -266,7 +266,7 @@ module _ (n : ℕ) (half : List ℤ) (e : length half ≡ 2 * suc n) where
   right_words =
       rw (add-one n) (ap (map number) (take_all (suc n) (drop (suc n) half) (omega (arith, length-drop (suc n) half))))
 
--- ---- a side is within limits, and there is room for what the half_space_lem makes
+-- ---- a side is within limits, and there is room for what the half-space makes
 -- a side is the largest of sums of two entries, each within 1,000,000
 pub sides_near : (n : ℕ) (ab list sides : List ℤ) → length ab ≡ suc n → Each 1000000 ab → Each 1000000 list
     → Sides n (map number ab) (vectors n list) sides → (i : ℕ) → i < count n list → Within 2000000 (side_word sides i)

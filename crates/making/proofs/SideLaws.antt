@@ -1,4 +1,4 @@
--- The sides of a half_space_lem at the vectors of a list, vector by vector.
+-- The sides of a half-space at the vectors of a list, vector by vector.
 use mathlib.Core.List.{List, map}
 use mathlib.Core.Logic.{◌≢◌}
 use mathlib.Core.Path.{◌≡◌, sym, ◌∙◌, ap}

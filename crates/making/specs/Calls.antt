@@ -8,8 +8,8 @@ use Rattle.making.specs.declared.Made.{Made}
 use Rattle.making.specs.Limits.{Roomy, HalfLimits, ResetLimits}
 use Rattle.making.specs.Answers.{Makes}
 
--- ---- intersect: the vectors of l's set that satisfy the half_space_lem h
--- what is asked of a list, a half_space_lem and an area
+-- ---- intersect: the vectors of l's set that satisfy the half-space h
+-- what is asked of a list, a half-space and an area
 abbrev pub intersect_input : ℕ → List ℤ → List ℤ → List ℤ → Input
 intersect_input n l h area = record {
   shape = Clocks n × Whole n l × (length h ≡ 2 * suc n) × Roomy n area;

@@ -63,7 +63,7 @@ pub record Writes (n : ℕ) (work : List ℤ) (alive : List Bool) (before : List
   pub made : answer ≡ (written (sorted_alive n work alive) before).made
   pub area : after ≡ (written (sorted_alive n work alive) before).area
 
--- a list within limits of at most 32 vectors, a half_space_lem within limits, and room for 272 vectors
+-- a list within limits of at most 32 vectors, a half-space within limits, and room for 272 vectors
 pub record Cuttable (n : ℕ) (list half work : List ℤ) : Type 0 where
   pub clocks : n ≤ 6
   pub few : count n list ≤ 32

@@ -10,7 +10,7 @@ use Rattle.sets.specs.Limits.{Between, Loose}
 abbrev pub Roomy : ℕ → List ℤ → Type 0
 Roomy n area = 32 * suc n ≤ length area
 
--- the entries of a half_space_lem of 2(n + 1) words; a shorter one is refused before its entries are looked at
+-- the entries of a half-space of 2(n + 1) words; a shorter one is refused before its entries are looked at
 abbrev pub HalfLimits : ℕ → List ℤ → Type 0
 HalfLimits n h = (j : ℕ) → j < 2 * suc n → Loose (entries h j)
 

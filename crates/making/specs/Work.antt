@@ -40,12 +40,12 @@ pub record Grown (n : ℕ) (work : List ℤ) (k : ℕ) (L : List Vector) (r : �
   pub added : Added n work k L after
   pub count : r ≡ k + length L
 
--- the words of `sides` are the sides of a half_space_lem at the vectors of a list
+-- the words of `sides` are the sides of a half-space at the vectors of a list
 pub record Sides (n : ℕ) (ab : Vector) (L : List Vector) (sides : List ℤ) : Type 0 where
   pub long : length sides ≡ 32
   pub right : (i : ℕ) → i < length L → number (get_or sides i (pos 0)) ≡ side_at n ab (vector L i)
 
--- what the sides are taken of: a list within limits of at most 32 vectors, and one side of a half_space_lem within limits
+-- what the sides are taken of: a list within limits of at most 32 vectors, and one side of a half-space within limits
 pub record Sided (n : ℕ) (list ab out : List ℤ) : Type 0 where
   pub clocks : n ≤ 6
   pub few : count n list ≤ 32
@@ -54,7 +54,7 @@ pub record Sided (n : ℕ) (list ab out : List ℤ) : Type 0 where
   pub of_side : Each 1000000 ab
   pub room : length out ≡ 32
 
--- ---- the vectors that a half_space_lem makes, by the words of its sides
+-- ---- the vectors that a half-space makes, by the words of its sides
 -- f 0, .., f (m − 1), one behind the other
 unfoldable pub up_to : ℕ → (ℕ → List Vector) → List Vector
 up_to zero f = []

@@ -12,7 +12,7 @@ use numbers::{Vector, product};
 use sets::entries;
 
 // What becomes of each vector of a list: it stays, it becomes a ray, or its clock is replaced.
-#[derive(Drop)]
+#[derive(Clone, Copy)]
 pub enum Change {
     Stay,
     Ray,

@@ -1,4 +1,4 @@
-// The vectors that a half_space_lem makes: satisfying ones stay, and each gives one more with every violating one.
+// The vectors that a half-space makes: satisfying ones stay, and each gives one more with every violating one.
 ghost use Rattle.std.specs.Prelude.{[], ◌∷◌, map, ◌<◌};
 ghost use Rattle.numbers.specs.Words.{number};
 ghost use Rattle.algebra.specs.Vectors.{vectors, count};
@@ -11,7 +11,7 @@ ghost use Rattle.making.specs.Finish.{Cuttable};
 use crate::work;
 use numbers::{mix, side};
 
-// The sides of a half_space_lem at the vectors of the list.
+// The sides of a half-space at the vectors of the list.
 fn sides(out: &mut [i32], list: &[i32], ab: &[i32], n: usize)
     requires { Sided n list.now ab.now out.old }
     ensures { Sides n (map number ab.now) (vectors n list.now) out.new }
@@ -134,7 +134,7 @@ fn keep_all(work: &mut [i32], list: &[i32], n: usize, ls: &[i32], rs: &[i32]) ->
     c
 }
 
-// The vectors that a half_space_lem makes, put to the front, and how many they are.
+// The vectors that a half-space makes, put to the front, and how many they are.
 pub fn cut(work: &mut [i32], list: &[i32], half: &[i32], n: usize) -> usize
     requires { Cuttable n list.now half.now work.old }
     ensures { Grown n work.old 0

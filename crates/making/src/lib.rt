@@ -10,19 +10,19 @@ use sets::input::why;
 mod input; // input.rt: whether the input of a call is good
 mod work; // work.rt: vectors put into working memory
 mod build; // build.rt: the vectors that stand before cleaning
-mod half; // half.rt: the vectors that a half_space_lem makes
+mod half; // half.rt: the vectors that a half-space makes
 mod clean; // clean.rt: vectors that others generate are dropped
 mod range; // range.rt: the limits of a result
 mod finish; // finish.rt: the result written to the lent area
 
 // The answer of a call that makes a set: how many vectors stand in the area.
-#[derive(Drop)]
+#[derive(Clone, Copy)]
 pub enum Made {
     Vectors(usize),
     Refused(Refusal),
 }
 
-// The vectors of the list's set that satisfy the half_space_lem.
+// The vectors of the list's set that satisfy the half-space.
 pub fn intersect(n: usize, list: &[i32], half: &[i32], out: &mut [i32]) -> Made
     ensures { Intersects n list.now half.now out.old result out.new }
 {

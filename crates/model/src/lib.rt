@@ -13,7 +13,7 @@ mod writer;
 pub mod places; // places.rt: where the parts of a model stand in its bytes
 
 // An edge. Bit i of `resets` stands for clock i.
-#[derive(Drop)]
+#[derive(Clone, Copy)]
 pub struct Edge {
     pub source: u32,
     pub destination: u32,
@@ -22,7 +22,7 @@ pub struct Edge {
 }
 
 // A model. What is behind the first `locations` invariants and the first `edges` steps is unused.
-#[derive(Drop)]
+#[derive(Clone, Copy)]
 pub struct Model {
     pub clocks: u32,
     pub locations: u32,
@@ -36,7 +36,7 @@ pub struct Model {
 }
 
 // What a walk needs of a model's bytes: its numbers, each edge's source, and where its lists and edges stand.
-#[derive(Drop)]
+#[derive(Clone, Copy)]
 pub struct Outline {
     pub clocks: u32,
     pub locations: u32,
@@ -51,21 +51,21 @@ pub struct Outline {
 }
 
 // The answer of `read_outline`: where the bytes end or why they are refused, and the outline beside it.
-#[derive(Drop)]
+#[derive(Clone, Copy)]
 pub struct Outlined {
     pub step: Step,
     pub outline: Outline,
 }
 
 // The answer of `read`: where the bytes end or why they are refused, and the model beside it.
-#[derive(Drop)]
+#[derive(Clone, Copy)]
 pub struct Reading {
     pub step: Step,
     pub model: Model,
 }
 
 // How many bytes were written, or why none were.
-#[derive(Drop)]
+#[derive(Clone, Copy)]
 pub enum Written {
     Bytes(usize),
     Refused(Refusal),

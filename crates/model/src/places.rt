@@ -10,13 +10,13 @@ use bounds::Bounds;
 use codec::Step;
 use numbers::Refusal;
 
-#[derive(Drop)]
+#[derive(Clone, Copy)]
 struct ListPlaces {
     pub step: Step,
     pub places: [usize; 32],
 }
 
-#[derive(Drop)]
+#[derive(Clone, Copy)]
 struct EdgePlaces {
     pub step: Step,
     pub places: [usize; 64],

@@ -13,7 +13,7 @@ use codec::{Number, Step};
 use numbers::Refusal;
 
 // What stands before the invariants.
-#[derive(Drop)]
+#[derive(Clone, Copy)]
 pub struct Head {
     pub clocks: u32,
     pub locations: u32,
@@ -22,39 +22,39 @@ pub struct Head {
 }
 
 // What stands behind the edges.
-#[derive(Drop)]
+#[derive(Clone, Copy)]
 pub struct Goal {
     pub target: u32,
     pub list: Bounds,
     pub depth: u32,
 }
 
-#[derive(Drop)]
+#[derive(Clone, Copy)]
 pub struct HeadRead {
     pub step: Step,
     pub head: Head,
 }
 
-#[derive(Drop)]
+#[derive(Clone, Copy)]
 pub struct InvariantsRead {
     pub step: Step,
     pub invariants: [Bounds; 32],
 }
 
-#[derive(Drop)]
+#[derive(Clone, Copy)]
 pub struct EdgeRead {
     pub step: Step,
     pub edge: Edge,
 }
 
-#[derive(Drop)]
+#[derive(Clone, Copy)]
 pub struct EdgesRead {
     pub step: Step,
     pub steps: [Edge; 64],
 }
 
 // The list of the goal stands at `place`.
-#[derive(Drop)]
+#[derive(Clone, Copy)]
 pub struct GoalRead {
     pub step: Step,
     pub goal: Goal,

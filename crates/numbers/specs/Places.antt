@@ -15,7 +15,7 @@ entries xs j = number (get_or xs j (pos 0))
 pub record Each (k : ℕ) (xs : List ℤ) : Type 0 where
   pub each : (j : ℕ) → j < length xs → Within k (entries xs j)
 
--- one side of a half_space_lem at a vector: the largest of a + x over the first d places
+-- one side of a half-space at a vector: the largest of a + x over the first d places
 unfoldable pub side_of : ℕ → Vec → Vec → Num
 side_of d a x = ⨁ d (λ j. a j ⊗ x j)
 

@@ -7,7 +7,7 @@ ghost use Rattle.numbers.specs.Weights.{bound, meet, weight_of, cap_of};
 ghost use Rattle.numbers.specs.Refusals.{refusal_number};
 
 // Why a call refuses.
-#[derive(Drop)]
+#[derive(Clone, Copy)]
 pub enum Refusal {
     Shape,
     Entry,
@@ -38,7 +38,7 @@ impl Refusal {
 }
 
 // A vector in words: n clocks, then 0 for a point or the mark for a ray, the rest 0.
-#[derive(Drop)]
+#[derive(Clone, Copy)]
 pub struct Vector {
     pub words: [i32; 7],
 }
@@ -111,7 +111,7 @@ pub fn product(a: i32, b: i32) -> i32
     a + b
 }
 
-// One side of a half_space_lem at a vector.
+// One side of a half-space at a vector.
 pub fn side(a: &[i32], x: &[i32]) -> i32
     requires { (length a.now ≡ length x.now) × Each 1000000000 a.now × Each 1000000000 x.now }
     ensures { number result

@@ -104,7 +104,7 @@ reset_call n l i area g =
 
 -- ---- the walk's input is good
 module _ (n : ℕ) (clocks : Clocks n) (l area : List ℤ) (p : Proper n l) (roomy : Roomy n area) where
-  -- a bound's half_space_lem and a proper list
+  -- a bound's half-space and a proper list
   pub cut_good : (b : Bound) → BoundLimits n b → GoodInput (intersect_input n l (half_of n b) area)
   cut_good b h = ((clocks, p.whole, half_long n b h, roomy), (p.limits, half_limits n b h), tt)
 

@@ -1,4 +1,4 @@
--- A half_space_lem holds of clock values exactly if their numbers satisfy it.
+-- A half-space holds of clock values exactly if their numbers satisfy it.
 use mathlib.Core.Bool.{Bool, true, false}
 use mathlib.Core.List.{[], ◌∷◌}
 use mathlib.Core.Logic.Iff
@@ -58,7 +58,7 @@ stands_in (x ∷ ab) (suc i) e = let l = stands_in ab i e in omega arith
 abbrev pub spots : ℕ → Values → Vec
 spots n v = spot n nought (numbers v)
 
--- ---- a half_space_lem
+-- ---- a half-space
 module _ (n : ℕ) (v : Values) (e : length v ≡ n) where
   -- what stands at a place
   pub value_at : (x : ℕ) → x < suc n → spots n v x ≡ fin (pos (clock v x))

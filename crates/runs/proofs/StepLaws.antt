@@ -55,7 +55,7 @@ gives n L wanted t e f low = record {
 
 -- ---- the steps make the wanted sets
 module _ (n : ℕ) (l : List ℤ) (p : Proper n l) where
-  -- what satisfies a half_space_lem
+  -- what satisfies a half-space
   pub cut_gives : (h t : List ℤ) → cut n h l ≡ made t
       → Gives n t (Intersected n (set_of n l) (left n h) (right n h))
   unfolding cut

@@ -26,7 +26,7 @@ pub data Step : Type 0 where
 unfoldable pub fitted : ℕ → List Vector → Step
 fitted n R = cond (range_ok n R) (cond (leb (length R) 32) (made (words R)) (stop Gens)) (stop Range)
 
--- the step to what satisfies a half_space_lem, by its words
+-- the step to what satisfies a half-space, by its words
 unfoldable pub cut : ℕ → List ℤ → List ℤ → Step
 cut n h l = fitted n (canonical_of n (intersect_list n (left n h) (right n h) (vectors n l)))
 

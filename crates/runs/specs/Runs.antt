@@ -23,7 +23,7 @@ pub record Covers (side : List Num) (v : Values) (z : ℤ) : Type 0 where
   pub stands : get_or side place −∞ ≡ fin number
   pub above : z ≤ℤ term v place number
 
--- a bound holds of the values, each kind in its own arithmetic: a half_space_lem if each term on its left is at most some
+-- a bound holds of the values, each kind in its own arithmetic: a half-space if each term on its left is at most some
 -- term on its right
 abbrev pub Holds : Bound → Values → Type 0
 Holds (clock_at_most x k) v = clock v x ≤ k

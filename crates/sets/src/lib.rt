@@ -8,7 +8,7 @@ pub mod input; // input.rt: whether the input of a call is good
 pub mod against; // against.rt: a vector tested against a list
 
 // The answer of a call that asks.
-#[derive(Drop)]
+#[derive(Clone, Copy)]
 pub enum Told {
     Yes,
     No,
@@ -16,14 +16,14 @@ pub enum Told {
 }
 
 // Whether the input of a call is good.
-#[derive(Drop)]
+#[derive(Clone, Copy)]
 pub enum Checked {
     Good,
     Refused(Refusal),
 }
 
 // Where a vector falls short of what a list reaches, and the value reached there.
-#[derive(Drop)]
+#[derive(Clone, Copy)]
 pub enum Short {
     Nowhere,
     At(usize, i32),

@@ -81,7 +81,7 @@ module _ (n x y : ℕ) (k : ℤ) (few : n ≤ 6) (h : x < n) (l : y < n) where
 
 -- ---- by a kind
 module _ (n : ℕ) (bound : Bound) {half : List ℤ} where
-  -- the half_space_lem of a bound is that of its kind
+  -- the half-space of a bound is that of its kind
   pub half_as : (kind : Kind) → bound.kind ≡ kind → Halves n (half_of n (bound_by n bound kind)) half
       → Halves n (half_of n (bound_by n bound bound.kind)) half
   half_as kind e h = subst (λ (k : Kind). Halves n (half_of n (bound_by n bound k)) half) (sym e) h
@@ -100,7 +100,7 @@ two_words : (ab cd : Vector) → words (ab ∷ cd ∷ []) ≡ map word ab ++ map
 unfolding words
 two_words ab cd = ap (λ (t : List ℤ). map word ab ++ t) (append-nil (map word cd))
 
--- a half_space_lem of its own
+-- a half-space of its own
 pub own_half : (n : ℕ) (bound : Bound) → n ≤ 6 → HalfLimits n bound
     → Halves n (half_of n (bound_by n bound HalfSpace)) bound.half
 own_half n bound few w =

@@ -18,7 +18,7 @@ slot_by D = d
 abbrev pub row_by : Row → RuleRow
 row_by r = record { nought = slot_by r.nought; constant = slot_by r.constant }
 
--- the first 2(n + 1) words are those of a half_space_lem
+-- the first 2(n + 1) words are those of a half-space
 pub record Halves (n : ℕ) (half words : List ℤ) : Type 0 where
   pub long : length words ≡ 14
   pub front : take (2 * suc n) words ≡ half

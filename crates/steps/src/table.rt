@@ -1,4 +1,4 @@
-// Bounds become half-spaces by a fixed table of four rows; a half_space_lem of its own is taken as it is.
+// Bounds become half-spaces by a fixed table of four rows; a half-space of its own is taken as it is.
 ghost use Rattle.std.specs.Prelude.{◌≡◌, ◌≤◌, ◌<◌, get_or};
 ghost use Rattle.bounds.specs.Limits.{BoundLimits};
 ghost use Rattle.model.specs.Plain.{bound_by};
@@ -9,7 +9,7 @@ use bounds::{Bound, Kind};
 use numbers::Vector;
 
 // The slots of a half-space: clock x or y of a, b, clock x or y of c, and d.
-#[derive(Drop)]
+#[derive(Clone, Copy)]
 enum Slot {
     Ax,
     Ay,
@@ -20,7 +20,7 @@ enum Slot {
 }
 
 // Which slot gets 0, and which gets k. All other entries are −∞.
-#[derive(Drop)]
+#[derive(Clone, Copy)]
 struct Row {
     nought: Slot,
     constant: Slot,
@@ -61,7 +61,7 @@ fn place(n: usize, x: usize, y: usize, slot: Slot) -> usize
     }
 }
 
-// The half_space_lem that row i of the table makes of the clocks x and y and the constant k.
+// The half-space that row i of the table makes of the clocks x and y and the constant k.
 fn by_row(n: usize, i: usize, x: usize, y: usize, k: i32) -> [i32; 14]
     requires { (n ≤ 6) × (i < 4) × (x < n) × (y < n) }
     ensures { Halves n (row_words n (get_or table i (row ax d)) x y k) result }
@@ -77,7 +77,7 @@ fn by_row(n: usize, i: usize, x: usize, y: usize, k: i32) -> [i32; 14]
     half
 }
 
-// The half_space_lem of a bound.
+// The half-space of a bound.
 pub fn half(b: Bound, n: usize) -> [i32; 14]
     requires { (n ≤ 6) × BoundLimits n b }
     ensures { Halves n (half_of n (bound_by n b b.kind)) result }

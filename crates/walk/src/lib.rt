@@ -12,21 +12,21 @@ mod keeping;
 mod layers;
 
 // How many states are kept, and how many candidates were formed.
-#[derive(Drop)]
+#[derive(Clone, Copy)]
 pub struct Tally {
     pub kept: usize,
     pub tried: usize,
 }
 
 // The target: its location and its list.
-#[derive(Drop)]
+#[derive(Clone, Copy)]
 pub struct Goal {
     pub location: u32,
     pub list: Bounds,
 }
 
 // A part of the walk goes on, has met the target with the state kept last, or is refused.
-#[derive(Drop)]
+#[derive(Clone, Copy)]
 pub enum Moved {
     Going(Tally),
     Met(Tally),
