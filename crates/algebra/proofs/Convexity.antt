@@ -24,7 +24,7 @@ convex n a b X t δ h s0 s1 = side_sup (suc n) a (at t) b_z (places n (λ j. a j
 
     up : (k : ℕ) → k < suc n → X k ≼ at t k
     up = places n (λ k. X k ≼ at t k) (≼_of_eq (sym (later_last n (pos t) X)))
-        (λ k l. rw (later_clock n (pos t) X k l) (▷_up (omega arith) (X k)))
+        (λ k l. rw (later_clock n (pos t) X k l) (▷_up {c = pos t} (omega arith) (X k)))
 
     at_last : a n ⊗ at t n ≼ b_z
     at_last = rw (later_last n (pos t) X)

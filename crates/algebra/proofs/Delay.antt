@@ -56,7 +56,7 @@ module _ {I : Type 0} (n : ℕ) (G : I → Vec) (kind : Kinds n G) (X : Vec) (s 
       yk = later_clock n (pos δ) X
 
       rise : (k : ℕ) → k < n → X k ≼ Y k
-      rise k l = rw (yk k l) (▷_up (omega arith) (X k))
+      rise k l = rw (yk k l) (▷_up {c = pos δ} (omega arith) (X k))
 
       at_last : IsFin (Y n) → Found n
       at_last f = let (i, p) = s.at n (omega arith) (rw yn at f) in (old i, still i p)

@@ -94,7 +94,7 @@ finite_word {z} f h = go (seen f)
 
 -- what the code reads back from a word's bits is the word
 pub back : {z : ℤ} → mag z < 2147483648 → to_z w32 (of_z w32 z) ≡ z
-back h = to_z-of_z (record { sfits = h })
+back h = to_z-of_z {w = w32} (record { sfits = h })
 
 -- a number below 2,147,483,648 as a word
 pub word_is : (x : ℕ) → x < 2147483648 → to_z w32 x ≡ pos x

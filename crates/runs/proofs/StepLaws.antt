@@ -72,7 +72,7 @@ module _ (n : ℕ) (l : List ℤ) (p : Proper n l) where
     where
       low : (y : Vector) → Delayed (set_of n l) y → (j : ℕ) → j < n → nought ≼ entry y j
       low y d j m = ≼_trans (set_low n l p.limits d.x d.from j m)
-          (≼_trans (▷_up (omega arith) (entry d.x j))
+          (≼_trans (▷_up {c = pos d.δ} (omega arith) (entry d.x j))
           (≼_of_eq (sym (ap (λ v. entry v j) d.is ∙ get_or-map (λ z. pos d.δ ▷ z) d.x j −∞))))
 
   -- a reset to 0
