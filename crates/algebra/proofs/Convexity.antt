@@ -45,7 +45,7 @@ convex n a b X t δ h s0 s1 = side_sup (suc n) a (at t) b_z (places n (λ j. a j
         T = a j ⊗ X j
 
         by_last : pos δ ▷ T ≼ b n ⊗ at δ n → pos t ▷ T ≼ b_z
-        by_last q = ≼_trans (▷_le (omega arith) T)
+        by_last q = ≼_trans (▷_le {c = pos t} {e = pos δ} (omega arith) T)
             (≼_trans q (≼_trans (≼_of_eq end) (side_le (suc n) b (at t) n (omega arith))))
 
         by_clock : (k : ℕ) → k < n → pos δ ▷ T ≼ b k ⊗ at δ k → pos t ▷ T ≼ b_z

@@ -1,0 +1,6 @@
+use borrow.Author.Rules.{rules}
+use Rattle.area.proofs.RecordLaws.{size_plus}
+use Rattle.area.proofs.size.Goals as goal
+
+pub returns : goal.returns
+returns c = size_plus c.args.n

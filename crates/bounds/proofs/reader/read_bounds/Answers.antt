@@ -1,0 +1,46 @@
+use mathlib.Core.Path.{ap, ◌∙◌}
+use Prim.Native.Nat.{◌-◌, ◌<◌}
+use native.Mathlib.Omega.{arith}
+use lib.ListN.{drop}
+use Rattle.codec.specs.Number.{got}
+use Rattle.codec.specs.Form.{done, ask}
+use Rattle.codec.specs.Answers.{why_number, why_step}
+use Rattle.codec.proofs.ArrayLaws.{Filling, fill_start, fill_step, fill_stop, fill_done}
+use Rattle.codec.proofs.FormLaws.{Finds, asked, unasked, valued, unvalued, after, stops, stepped, unstepped, finished, found_below, refusing, giving} 
+use Rattle.bounds.specs.Bounds.{no_bound, bound_form, bounds_form}
+use borrow.Author.Rules.{rules}
+use Rattle.bounds.proofs.reader.read_bounds.Goals as goal
+
+pub returns-in_default : goal.returns-in_default
+unfolding bounds_form
+returns-in_default c =
+    let why = c.why.ensures ∙ ap why_number c.in_default.is in
+    refusing (unasked
+    (unvalued c.read_below-a.ensures
+    c.in_default.is)) why c.refused_bounds.ensures
+
+pub loop-i-init : goal.loop-i-init
+loop-i-init c = rw c.no_bound-blank.ensures fill_start
+
+pub returns-in_default-step : goal.returns-in_default-step
+unfolding bounds_form
+returns-in_default-step c =
+    let told = c.in_default-step.is in
+    let items = fill_stop c.loop-i.invariant c.loop-i-test.true
+    (unstepped c.read_bound-r.ensures told) in
+    refusing (asked (valued c.read_below-a.ensures c.in-Value.is) (stops _ _ items)) (c.why-in_default-step.ensures ∙ ap why_step told)
+    c.refused_bounds-in_default-step.ensures
+
+pub bounds-items-i : goal.bounds-items-i
+bounds-items-i c = omega (arith, (found_below (valued c.read_below-a.ensures c.in-Value.is)))
+
+pub loop-i-preserved : goal.loop-i-preserved
+loop-i-preserved c =
+    fill_step c.loop-i.invariant (omega (arith, (found_below (valued c.read_below-a.ensures c.in-Value.is)))) c.loop-i-test.true
+    (stepped c.read_bound-r.ensures c.in-At.is)
+
+pub returns : goal.returns
+unfolding bounds_form
+returns c =
+    let items = fill_done c.loop-i.invariant (omega (arith, (found_below (valued c.read_below-a.ensures c.in-Value.is)))) c.loop-i-test.false in
+    giving (asked (valued c.read_below-a.ensures c.in-Value.is) (after _ _ items finished))

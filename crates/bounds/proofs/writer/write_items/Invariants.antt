@@ -1,0 +1,15 @@
+use Prim.Native.Nat.{◌-◌, ◌≤◌}
+use native.Mathlib.Omega.{arith}
+use lib.ListN.{length}
+use Rattle.codec.proofs.WriteLaws.{Storing, store_start, store_room, store_more, store_done, kept_long}
+use Rattle.codec.proofs.PackedLaws.{check_each}
+use Rattle.bounds.specs.Bounds.{past_bound}
+use Rattle.bounds.specs.Written.{bound_bytes}
+use borrow.Author.Rules.{rules}
+use Rattle.bounds.proofs.writer.write_items.Given as goal
+
+abbrev pub invariant-loop-i : goal.invariant-loop-i
+invariant-loop-i l = Storing (bound_bytes l.n) l.count l.items l.initial.out l.at l.i l.out l.from
+
+abbrev pub decreases-loop-i : goal.decreases-loop-i
+decreases-loop-i l = l.count - l.i

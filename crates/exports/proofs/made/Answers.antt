@@ -1,0 +1,12 @@
+use borrow.Author.Rules.{rules}
+use Rattle.exports.proofs.NumberLaws.{handed}
+use Rattle.exports.proofs.made.Goals as goal
+
+pub count-requires : goal.count-requires
+count-requires c = rw c.in-Vectors.is at c.requires
+
+pub returns-in-Vectors : goal.returns-in-Vectors
+returns-in-Vectors c = rw c.in-Vectors.is (handed c.count.result _ c.count.type_inv c.count.ensures)
+
+pub returns-in-Refused : goal.returns-in-Refused
+returns-in-Refused c = rw c.in-Refused.is (handed c.refused.result _ c.refused.type_inv c.refused.ensures)

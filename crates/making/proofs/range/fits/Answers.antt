@@ -1,0 +1,61 @@
+use mathlib.Core.Path.{◌≡◌, refl, sym, ◌∙◌}
+use mathlib.Core.Bool.{true, false, cond}
+use mathlib.Core.Logic.{⊎_elim}
+use Prim.Native.Nat.{◌+◌, ◌*◌, ◌≤◌, ◌-◌}
+use native.Mathlib.Nat.{le_antisymm}
+use native.Mathlib.Numerals.{add-one}
+use native.Mathlib.Omega.{arith}
+use borrow.Author.Tests.{not-true, not-false}
+use lib.ListN.{length, get_or}
+use Rattle.numbers.specs.Tests.{every}
+use Rattle.numbers.proofs.Tells.{every_more, every_stop, every_done}
+use Rattle.sets.specs.Rules.{flat}
+use Rattle.sets.proofs.RowLaws.{part_is, part_long}
+use Rattle.making.specs.Finish.{row_ok, alive_ok}
+use Rattle.making.proofs.RangeLaws.{row_room, row_test, off_passes, on_is}
+use borrow.Author.Rules.{rules}
+use Rattle.making.proofs.range.fits.Goals as goal
+
+pub loop-i-init : goal.loop-i-init
+loop-i-init c = (omega arith, refl)
+
+pub overflow_mul-at : goal.overflow_mul-at
+overflow_mul-at c = omega (arith, c.well_formed, (row_room c.args.n _ _ _ c.loop-i-test.true c.requires.1))
+
+pub overflow_add-at : goal.overflow_add-at
+overflow_add-at c = omega (arith, c.well_formed, (row_room c.args.n _ _ _ c.loop-i-test.true c.requires.1))
+
+pub offset_bounds-work-at : goal.offset_bounds-work-at
+offset_bounds-work-at c = omega (arith, c.well_formed, (row_room c.args.n _ _ _ c.loop-i-test.true c.requires.1))
+
+pub slice_bounds-row_fits-end : goal.slice_bounds-row_fits-end
+slice_bounds-row_fits-end c = omega (arith, (row_room c.args.n _ _ _ c.loop-i-test.true c.requires.1))
+
+pub row_fits-requires : goal.row_fits-requires
+row_fits-requires c =
+    let a = c.args in
+    let at = c.loop-i.i * (a.n + 1) in
+    rw (part_is a.work.now at (a.n + 1))
+    (omega (arith, part_long a.work.now at (a.n + 1) (row_room c.args.n _ _ _ c.loop-i-test.true c.requires.1)))
+
+pub returns-then-not-row_fits : goal.returns-then-not-row_fits
+unfolding alive_ok
+returns-then-not-row_fits c =
+    rw (← add-one c.args.n)
+    (sym (every_stop _ _ c.loop-i.i c.loop-i-test.true
+    ((let a = c.args in on_is _ _ c.if-alive-i.true ∙ sym (row_test a.n a.work.now c.loop-i.i) ∙ sym c.row_fits.ensures) ∙ not-true _ c.if-not-row_fits.true-raw)))
+
+pub overflow_add-i : goal.overflow_add-i
+overflow_add-i c = omega (arith, c.well_formed, c.loop-i-test.true)
+
+pub loop-i-preserved : goal.loop-i-preserved
+loop-i-preserved c =
+    let l = c.loop-i in
+    (omega arith, every_more _ l.i l.invariant.1 (let it : (let a = c.args in cond (get_or a.alive.now c.loop-i.i false) (row_ok a.n (flat (a.n + 1) a.work.now c.loop-i.i)) true ≡ true) = ⊎_elim (λ t. tested (record { before = record { before = record { before = c.before; if1 = t.0 }; row-fits-arg = t.1 }; row-fits = t.2; }) ∙ not-false _ t.3.left) (λ e. off_passes _ _ e.left) c.if-alive-i.branch in it))
+
+pub returns : goal.returns
+unfolding alive_ok
+returns c =
+    let l = c.loop-i in
+    rw (← add-one c.args.n)
+    (every_done _ _ l.i (le_antisymm l.invariant.0 c.loop-i-test.false) l.invariant.1)

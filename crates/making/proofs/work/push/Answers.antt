@@ -1,0 +1,39 @@
+use mathlib.Core.Path.{◌≡◌, sym, ◌∙◌, subst}
+use mathlib.Core.List.{List}
+use Prim.Native.Nat.{ℕ, suc, ◌+◌, ◌-◌, ◌*◌, ◌≤◌}
+use native.Mathlib.Numerals.{add-one}
+use native.Mathlib.Omega.{arith}
+use borrow.Rule.Slice.PartMut.{mid_len}
+use lib.IntN.{ℤ}
+use lib.ListN.{length, take, drop}
+use mir.Syntax.{w32}
+use mir.Val.{to_z, of_z}
+use Rattle.numbers.proofs.NumberLaws.{wider}
+use Rattle.numbers.proofs.WordLaws.{back}
+use Rattle.sets.proofs.FallLaws.{each_wider}
+use Rattle.making.specs.Work.{shift_of, Shifted}
+use Rattle.making.proofs.PushLaws.{shift_near, pushed}
+use borrow.Author.Rules.{rules}
+use Rattle.making.proofs.work.push.Goals as goal
+
+-- the part lent has n + 1 words
+part_long : (n k : ℕ) (work : List ℤ) → k * suc n + suc n ≤ length work
+    → length (take (k * (n + 1) + (n + 1) - k * (n + 1)) (drop (k * (n + 1)) work)) ≡ suc n
+part_long n k work h =
+    mid_len (k * (n + 1)) (k * (n + 1) + (n + 1)) work (rw (add-one n) h) ∙ omega (arith, add-one n)
+
+pub place-requires : goal.place-requires
+place-requires c =
+    let p = c.requires in (
+      part_long c.args.n c.args.k c.args.work.now p.room ∙ sym p.long,
+      each_wider (omega arith) p.near,
+      wider {k = 10000000} (omega arith) (rw (back c.shift-by.type_inv ∙ c.shift-by.ensures) (shift_near _ _ p.long p.near)),
+    )
+
+pub returns : goal.returns
+returns c =
+    let a = c.args in
+    let e : a.k * (a.n + 1) + (a.n + 1) - a.k * (a.n + 1) ≡ a.n + 1 = omega arith in
+    rw (e, add-one a.n) (pushed a.n a.work.now a.k a.vector.now _ c.requires
+    (subst (λ (z : ℤ). Shifted a.vector.now z c.place.new.out) (back c.shift-by.type_inv ∙ c.shift-by.ensures)
+    c.place.ensures))

@@ -1,0 +1,28 @@
+use mathlib.Core.Path.{ap, ◌∙◌}
+use Prim.Native.Nat.{◌-◌}
+use Rattle.codec.specs.Answers.{why_step}
+use Rattle.codec.proofs.FormLaws.{stepped, unstepped}
+use Rattle.bounds.specs.Bounds.{no_bounds, bounds_form}
+use borrow.Author.Rules.{rules}
+use Rattle.model.proofs.SurveyLaws.{Placing, place_start, place_step, place_stop, place_done}
+use Rattle.model.proofs.places.list_places.Goals as goal
+
+pub loop-i-init : goal.loop-i-init
+loop-i-init c = place_start
+
+pub returns-in_default : goal.returns-in_default
+returns-in_default c =
+    let stop = unstepped c.read_bounds-r.ensures c.in_default.is in
+    let why = c.why.ensures ∙ ap why_step c.in_default.is in
+    place_stop c.loop-i.invariant
+    c.loop-i-test.true stop why
+
+pub loop-i-preserved : goal.loop-i-preserved
+loop-i-preserved c =
+    place_step c.loop-i.invariant
+    c.requires.1
+    c.loop-i-test.true
+    (stepped c.read_bounds-r.ensures c.in-At.is)
+
+pub returns : goal.returns
+returns c = place_done c.loop-i.invariant c.requires.1 c.loop-i-test.false

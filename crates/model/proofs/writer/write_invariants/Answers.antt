@@ -1,0 +1,40 @@
+use Prim.Native.Nat.{◌-◌, ◌≤◌}
+use native.Mathlib.Omega.{arith}
+use lib.ListN.{length}
+use Rattle.codec.proofs.WriteLaws.{Storing, store_start, store_room, store_more, store_done, kept_long}
+use Rattle.codec.proofs.PackedLaws.{check_each}
+use Rattle.bounds.specs.Written.{bounds_bytes}
+use Rattle.model.specs.Models.{past_bounds}
+use borrow.Author.Rules.{rules}
+use Rattle.model.proofs.writer.write_invariants.Goals as goal
+
+pub loop-i-init : goal.loop-i-init
+loop-i-init c = store_start
+
+pub write_bounds-from-requires : goal.write_bounds-from-requires
+write_bounds-from-requires c =
+    let p = c.requires in
+    let w = p.n_bound.1 in
+    let l = c.loop-i-test.true in
+    let fit = (check_each past_bounds w c.loop-i.i (omega (arith, w.few, l))).used l in
+    let long : c.args.count ≤ length
+    c.args.invariants = omega (arith, w.few, w.long) in
+    record {
+      n_bound = (p.n_bound.0, fit);
+      room = store_room c.loop-i.invariant past_bounds long l p.room;
+    }
+
+pub loop-i-preserved : goal.loop-i-preserved
+loop-i-preserved c =
+    let w = c.requires.n_bound.1 in
+    let long : c.args.count ≤ length
+    c.args.invariants =
+    omega (arith, w.few, w.long) in
+    store_more c.loop-i.invariant past_bounds long
+    c.loop-i-test.true c.write_bounds-from.ensures
+
+pub shape_of-out : goal.shape_of-out
+shape_of-out c = kept_long c.loop-i.invariant.wrote
+
+pub returns : goal.returns
+returns c = store_done c.loop-i.invariant c.loop-i-test.false

@@ -1,0 +1,44 @@
+use mathlib.Core.Logic.{⊎_elim}
+use Prim.Native.Nat.{◌-◌}
+use native.Mathlib.Omega.{arith}
+use lib.IntN.{pos}
+use lib.ListN.{length, get_or}
+use mir.Syntax.{w32}
+use mir.Val.{SFits, to_z, of_z}
+use mir.Facts.{to_z-of_z}
+use Rattle.numbers.specs.Numbers.{Within}
+use Rattle.numbers.specs.Words.{number}
+use Rattle.numbers.specs.Places.{entries}
+use Rattle.numbers.proofs.WordLaws.{is_low}
+use Rattle.numbers.proofs.PlaceLaws.{Filling, filling_start, filling_same, filling_next, lifting}
+use Rattle.numbers.proofs.PlaceLaws.{lifting_none, lifting_done}
+use borrow.Author.Rules.{rules}
+use Rattle.numbers.proofs.lift.Goals as goal
+
+pub loop-j-init : goal.loop-j-init
+loop-j-init c = filling_start _ _ _ (omega arith)
+
+pub product-requires : goal.product-requires
+product-requires c =
+    let l = c.loop-j in
+    let w : Within 1000000000 (entries c.args.h.now l.j) = c.requires.each.0.each l.j (omega arith) in
+    search rules
+
+pub loop-j-preserved : goal.loop-j-preserved
+loop-j-preserved c =
+    let l = c.loop-j in
+    let g = get_or c.args.h.now l.j (pos 0) in
+    let f : SFits w32 g = record { sfits = c.g-1.given } in
+    let wide : Within 1000000000 (number g) = c.requires.each.0.each l.j (omega arith) in
+    ⊎_elim
+    (λ w. rw w.4
+    (filling_next _ _ _ l.out l.j _ l.invariant (omega arith) (search (rules, w.3.ensures, w.2.ensures))))
+    (λ w. rw w.1
+    (filling_same _ _ _ l.out l.j l.invariant (omega arith)
+    (lifting_none _ (number (to_z w32 (of_z w32 c.args.t))) (is_low f wide w.0.left).is)))
+    c.if-g-ge-LEAST.branch
+
+pub returns : goal.returns
+returns c =
+    let l = c.loop-j in
+    rw (← to_z-of_z c.ranges.t) (lifting_done _ _ _ _ l.out l.j l.invariant (omega arith))

@@ -1,0 +1,8 @@
+use mathlib.Core.Path.{refl}
+use Rattle.codec.specs.Number.{put}
+use borrow.Author.Rules.{rules}
+use Rattle.printing.proofs.byte.Goals as goal
+
+pub returns : goal.returns
+unfolding put
+returns c = record { ends = refl; stored = refl }

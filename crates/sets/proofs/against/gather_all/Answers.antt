@@ -1,0 +1,49 @@
+use mathlib.Core.Path.{sym, ◌∙◌}
+use Prim.Native.Nat.{◌+◌, ◌≤◌, ◌-◌}
+use native.Mathlib.Omega.{arith}
+use Rattle.sets.specs.Falls.{Gathered, all_used}
+use Rattle.sets.proofs.RowLaws.{row_ends}
+use Rattle.sets.proofs.FallLaws.{used_all, gathered_next, gathered_raisable, ends_early, ends_next}
+use borrow.Author.Rules.{rules}
+use Rattle.sets.proofs.against.gather_all.Goals as goal
+
+pub loop-i-init : goal.loop-i-init
+loop-i-init c = (omega arith, c.requires.gathered)
+
+pub take-from-requires : goal.take-from-requires
+take-from-requires c =
+    let t = c.requires.testable in record {
+      x_in_bounds = row_ends c.loop-i.i c.args.m _ _ (omega arith) t.whole;
+      raisable = gathered_raisable _ _ _ c.args.m c.loop-i.i _ _ t (omega arith) c.loop-i.invariant.1;
+    }
+
+-- one vector more took part
+taken : (c : goal.After-take-from) → let s = c.args in
+    Gathered s.list.now all_used s.x.now (c.loop-i.i + 1) c.take-from.result c.take-from.new.reached
+unfolding all_used
+taken c =
+    gathered_next _ _ _ c.loop-i.i _ _ _ _ (used_all c.loop-i.i (omega (arith, c.requires.testable.flags))) c.loop-i.invariant.1
+    c.take-from.ensures
+
+pub shape_of-reached-then-from-x : goal.shape_of-reached-then-from-x
+shape_of-reached-then-from-x c =
+    (taken c).long ∙ sym c.requires.gathered.long
+
+pub returns-then-from-x : goal.returns-then-from-x
+returns-then-from-x c =
+    ends_early _ _ _ (c.loop-i.i + 1) _ _ _ (omega arith) (omega arith) (taken c)
+
+pub loop-i-preserved : goal.loop-i-preserved
+loop-i-preserved c = (omega arith, taken c.before.before)
+
+pub next-requires : goal.next-requires
+next-requires c = let g = c.loop-i.invariant.1 in (g.long, g.inside)
+
+pub shape_of-reached : goal.shape_of-reached
+shape_of-reached c =
+    c.loop-i.invariant.1.long ∙ sym c.requires.gathered.long
+
+pub returns : goal.returns
+returns c =
+    let l = c.loop-i in
+    ends_next _ _ _ l.i _ l.from _ _ (omega arith) l.invariant.1 c.next.ensures

@@ -1,0 +1,10 @@
+use Rattle.model.specs.Plain.{bounds_of, edge_of}
+use Rattle.runs.specs.Rule.{following}
+use Rattle.steps.proofs.FrontLaws.{shown_begun}
+use borrow.Author.Rules.{rules}
+use Rattle.steps.proofs.candidate.Goals as goal
+
+pub returns : goal.returns
+returns c = let a = c.args in
+    shown_begun c.begin-k.ensures (following a.n (edge_of a.n a.edge) (bounds_of a.n a.invariant))
+    c.followed-answer.ensures a.out.now c.show.ensures

@@ -1,0 +1,10 @@
+use Rattle.model.specs.Plain.{bounds_of}
+use Rattle.runs.specs.Rule.{entering}
+use Rattle.steps.proofs.FrontLaws.{shown_begun}
+use borrow.Author.Rules.{rules}
+use Rattle.steps.proofs.enter.Goals as goal
+
+pub returns : goal.returns
+returns c = let a = c.args in
+    shown_begun c.begin-k.ensures (entering a.n (bounds_of a.n a.invariant))
+    c.entered-answer.ensures a.out.now c.show.ensures

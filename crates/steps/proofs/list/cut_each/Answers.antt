@@ -1,0 +1,34 @@
+use mathlib.Core.Path.{◌≡◌, refl}
+use Prim.Native.Nat.{◌+◌, ◌-◌, ◌≤◌}
+use native.Mathlib.Omega.{arith}
+use lib.ListN.{get_or, take, drop}
+use Rattle.codec.proofs.PackedLaws.{check_each}
+use Rattle.bounds.specs.Bounds.{past_bound}
+use Rattle.model.specs.Plain.{bound_by}
+use Rattle.runs.specs.Rule.{cut, ◌then◌}
+use Rattle.runs.specs.Table.{half_of}
+use Rattle.steps.specs.Working.{front, cut_items}
+use Rattle.steps.proofs.Going.{Going, going_turn, going_next, going_refused, going_done, cut_turn, cut_none}
+use borrow.Author.Rules.{rules}
+use Rattle.steps.proofs.list.cut_each.Goals as goal
+
+pub loop-i-init : goal.loop-i-init
+loop-i-init c = let h = c.requires.0 in
+    (omega arith, record { working = h; same = refl })
+
+pub cut-answer-requires : goal.cut-answer-requires
+cut-answer-requires c = let w = c.requires.1 in
+    (c.loop-i.invariant.1.working, (check_each past_bound w c.loop-i.i (omega (arith, w.few))).used c.loop-i-test.true)
+
+pub returns-in_default : goal.returns-in_default
+returns-in_default c = going_refused c.cut-answer.ensures c.in_default.is _
+    (let it : (let s = c.args in let l = c.loop-i in let b = get_or s.items l.i past_bound in cut s.n (half_of s.n (bound_by s.n b b.kind)) (front s.n l.m l.work) then cut_items s.n (drop (l.i + 1) (take s.count s.items)) ≡ cut_items s.n (take s.count s.items) (front s.n s.k s.work.now)) = let w = c.requires.1 in let l = c.loop-i in going_turn l.invariant.1 _ (cut_turn c.args.n c.args.count c.args.items (omega (arith, w.few, w.long)) l.i past_bound c.loop-i-test.true (front c.args.n l.m l.work)) in it)
+
+pub loop-i-preserved : goal.loop-i-preserved
+loop-i-preserved c = (omega arith, going_next c.cut-answer.ensures c.in-Vectors.is (let it : (let s = c.args in let l = c.loop-i in let b = get_or s.items l.i past_bound in cut s.n (half_of s.n (bound_by s.n b b.kind)) (front s.n l.m l.work) then cut_items s.n (drop (l.i + 1) (take s.count s.items)) ≡ cut_items s.n (take s.count s.items) (front s.n s.k s.work.now)) = let w = c.requires.1 in let l = c.loop-i in going_turn l.invariant.1 _ (cut_turn c.args.n c.args.count c.args.items (omega (arith, w.few, w.long)) l.i past_bound c.loop-i-test.true (front c.args.n l.m l.work)) in it))
+
+pub returns : goal.returns
+returns c = let w = c.requires.1 in
+    going_done c.loop-i.invariant.1
+    (cut_none c.args.n c.args.count c.args.items (omega (arith, w.few, w.long)) c.loop-i.i
+    c.loop-i-test.false)

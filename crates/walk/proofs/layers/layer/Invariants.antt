@@ -1,0 +1,22 @@
+use borrow.Author.Rules.{rules}
+use native.Mathlib.Omega.{arith}
+use mathlib.Core.Path.{◌≡◌, refl, ◌∙◌}
+use Prim.Native.Nat.{◌*◌, ◌-◌, ◌≤◌}
+use lib.ListN.{length}
+use Rattle.runs.specs.Rule.{expand, layer}
+use Rattle.model.specs.Outlines.{model_by}
+use Rattle.model.specs.Plain.{plain}
+use Rattle.area.proofs.KeepLaws.{states_many}
+use Rattle.walk.specs.Control.{walk_in}
+use Rattle.walk.proofs.KeepingLaws.{stays}
+use Rattle.walk.proofs.Turns.{Turning, turn_first, turns_on, turns_end, turns_done, ready_on, does_more, not_going}
+use Rattle.walk.proofs.layers.layer.Given as goal
+
+abbrev pub invariant-loop-i : goal.invariant-loop-i
+invariant-loop-i l =
+    (l.b ≤ l.i) × (l.i ≤ l.end) × (length l.area ≡ length l.initial.area)
+    × Turning l.outline.clocks l.room l.initial.s.kept (l.i * 64) (expand (plain (model_by l.bytes l.outline)).system l.room) l.end l.i
+    (layer (plain (model_by l.bytes l.outline)).system l.room l.b (walk_in l.outline.clocks l.initial.s l.initial.area)) l.initial.area l.s l.area
+
+abbrev pub decreases-loop-i : goal.decreases-loop-i
+decreases-loop-i l = l.end - l.i

@@ -1,0 +1,22 @@
+use borrow.Author.Rules.{rules}
+use native.Mathlib.Omega.{arith}
+use mathlib.Core.Path.{◌≡◌, refl, ◌∙◌}
+use Prim.Native.Nat.{◌-◌, ◌≤◌}
+use lib.ListN.{length}
+use Rattle.runs.specs.Rule.{layers}
+use Rattle.model.specs.Outlines.{model_by}
+use Rattle.model.specs.Plain.{plain}
+use Rattle.walk.specs.Control.{walk_in}
+use Rattle.walk.proofs.KeepingLaws.{stays}
+use Rattle.walk.proofs.Turns.{ready_on, not_going}
+use Rattle.walk.proofs.LayerLaws.{Layering, finds_same, layers_first, layering_on, layering_never, layering_ends, layering_open}
+use Rattle.walk.proofs.layers.layers.Given as goal
+
+abbrev pub invariant-loop-d : goal.invariant-loop-d
+invariant-loop-d l =
+    (l.d ≤ l.depth) × (length l.area ≡ length l.initial.area)
+    × Layering (plain (model_by l.bytes l.outline)).system l.outline.clocks l.room l.initial.s.kept l.depth l.d l.b
+    (layers (plain (model_by l.bytes l.outline)).system l.room l.depth 0 (walk_in l.outline.clocks l.initial.s l.initial.area)) l.initial.area l.s l.area
+
+abbrev pub decreases-loop-d : goal.decreases-loop-d
+decreases-loop-d l = l.depth - l.d
