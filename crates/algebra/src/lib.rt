@@ -1,1 +1,2 @@
 // The theory of max-plus sets: definitions in specs/, theorems in proofs/. There is nothing to run.
+#![tactic(auto)]

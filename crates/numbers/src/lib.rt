@@ -1,4 +1,6 @@
 // Numbers as words: the leaves that every vector is computed with.
+#![tactic(auto)]
+
 ghost use Rattle.std.specs.Prelude.{◌≡◌, ◌≤◌, pos, length};
 ghost use Rattle.numbers.specs.Numbers.{◌⊕◌, ◌⊗◌, IsFin, Within};
 ghost use Rattle.numbers.specs.Words.{number, mark};

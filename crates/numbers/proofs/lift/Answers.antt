@@ -1,4 +1,3 @@
-use mathlib.Core.Logic.{⊎_elim}
 use Prim.Native.Nat.{◌-◌}
 use native.Mathlib.Omega.{arith}
 use lib.IntN.{pos}
@@ -14,6 +13,7 @@ use Rattle.numbers.proofs.PlaceLaws.{Filling, filling_start, filling_same, filli
 use Rattle.numbers.proofs.PlaceLaws.{lifting_none, lifting_done}
 use borrow.Author.Rules.{rules}
 use Rattle.numbers.proofs.lift.Goals as goal
+use Rattle.numbers.proofs.lift.Goals.{then-g-ge-LEAST, else-g-ge-LEAST}
 
 pub loop-j-init : goal.loop-j-init
 loop-j-init c = filling_start _ _ _ (omega arith)
@@ -30,13 +30,13 @@ loop-j-preserved c =
     let g = get_or c.args.h.now l.j (pos 0) in
     let f : SFits w32 g = record { sfits = c.g-1.given } in
     let wide : Within 1000000000 (number g) = c.requires.each.0.each l.j (omega arith) in
-    ⊎_elim
-    (λ w. rw w.4
-    (filling_next _ _ _ l.out l.j _ l.invariant (omega arith) (search (rules, w.3.ensures, w.2.ensures))))
-    (λ w. rw w.1
-    (filling_same _ _ _ l.out l.j l.invariant (omega arith)
-    (lifting_none _ (number (to_z w32 (of_z w32 c.args.t))) (is_low f wide w.0.left).is)))
-    c.if-g-ge-LEAST.branch
+    elim c.if-g-ge-LEAST.branch [
+      | then-g-ge-LEAST w ↦ rw w.out-is
+          (filling_next _ _ _ l.out l.j _ l.invariant (omega arith) (search (rules, w.larger.ensures, w.product.ensures)))
+      | else-g-ge-LEAST w ↦ rw w.out-is
+          (filling_same _ _ _ l.out l.j l.invariant (omega arith)
+          (lifting_none _ (number (to_z w32 (of_z w32 c.args.t))) (is_low f wide w.if-g-ge-LEAST.false).is))
+    ]
 
 pub returns : goal.returns
 returns c =

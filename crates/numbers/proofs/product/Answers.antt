@@ -15,9 +15,9 @@ returns-then-b-eq-MARK c =
     let m = is_mark_lem f c.if-b-eq-MARK.true in rw (to_z-of_z f, m.is, ⊗_low)
 
 pub overflow_add-result : goal.overflow_add-result
-overflow_add-result c = rw (to_z-of_z c.ranges.a, to_z-of_z c.ranges.b) (sum_of (not_mark c.ranges.a c.if-a-eq-MARK.false) (not_mark c.ranges.b c.if-b-eq-MARK.false) c.requires.0 c.requires.1).ranges
+overflow_add-result c = rw (to_z-of_z c.ranges.a, to_z-of_z c.ranges.b) (sum_of (not_mark c.ranges.a c.if-a-eq-MARK.false) (not_mark c.ranges.b c.if-b-eq-MARK.false) c.requires.0 c.requires.1).fits
 
 pub returns : goal.returns
 returns c =
     let f = c.ranges in
-    rw (to_z-of_z f.a, to_z-of_z f.b, to_z-of_z (sum_of (not_mark c.ranges.a c.if-a-eq-MARK.false) (not_mark c.ranges.b c.if-b-eq-MARK.false) c.requires.0 c.requires.1).ranges) (sum_of (not_mark c.ranges.a c.if-a-eq-MARK.false) (not_mark c.ranges.b c.if-b-eq-MARK.false) c.requires.0 c.requires.1).is
+    rw (to_z-of_z f.a, to_z-of_z f.b, to_z-of_z (sum_of (not_mark c.ranges.a c.if-a-eq-MARK.false) (not_mark c.ranges.b c.if-b-eq-MARK.false) c.requires.0 c.requires.1).fits) (sum_of (not_mark c.ranges.a c.if-a-eq-MARK.false) (not_mark c.ranges.b c.if-b-eq-MARK.false) c.requires.0 c.requires.1).is

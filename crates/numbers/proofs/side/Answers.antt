@@ -1,4 +1,3 @@
-use mathlib.Core.Logic.{⊎_elim}
 use mathlib.Core.Path.{◌≡◌, sym, ◌∙◌}
 use Prim.Native.Nat.{◌≤◌, ◌-◌}
 use native.Mathlib.Omega.{arith}
@@ -13,6 +12,7 @@ use Rattle.numbers.proofs.WordLaws.{number_mark, is_low}
 use Rattle.numbers.proofs.PlaceLaws.{⨁_none, ⨁_more, ⨁_low}
 use borrow.Author.Rules.{rules}
 use Rattle.numbers.proofs.side.Goals as goal
+use Rattle.numbers.proofs.side.Goals.{then-c-ge-LEAST, else-c-ge-LEAST}
 
 pub loop-j-init : goal.loop-j-init
 loop-j-init c = (omega arith, number_mark ∙ sym (⨁_none _))
@@ -29,9 +29,10 @@ loop-j-preserved c =
     let f : SFits w32 h = record { sfits = c.c-1.given } in
     let wide : Within 1000000000 (number h) = c.requires.1.each l.j (omega arith) in (
       omega arith,
-      ⊎_elim
-          (λ w. rw w.4 (search (rules, ⨁_more, w.3.ensures, w.2.ensures, l.invariant.1)))
-          (λ w. rw w.1 (l.invariant.1 ∙ sym (⨁_low l.j _ (rw (is_low f wide w.0.left).is)))) c.if-c-ge-LEAST.branch,
+      elim c.if-c-ge-LEAST.branch [
+        | then-c-ge-LEAST w ↦ rw w.most-is (search (rules, ⨁_more, w.larger-most.ensures, w.product.ensures, l.invariant.1))
+        | else-c-ge-LEAST w ↦ rw w.most-is (l.invariant.1 ∙ sym (⨁_low l.j _ (rw (is_low f wide w.if-c-ge-LEAST.false).is)))
+      ],
     )
 
 pub returns : goal.returns

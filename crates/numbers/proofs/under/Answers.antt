@@ -9,31 +9,21 @@ use Rattle.numbers.proofs.IntegerLaws.{zarith}
 use Rattle.numbers.proofs.WordLaws.{Finite, finite_word, diff_of, under_new, under_old}
 use Rattle.numbers.proofs.under.Goals as goal
 
-module _ (c : goal.Start) where
-  x_fin : Finite c.args.x
-  x_fin = finite_word c.ranges.x c.requires.fin.0
-
-  g_fin : Finite c.args.g
-  g_fin = finite_word c.ranges.g c.requires.fin.1
-
-  d_fits : SFits w32 (c.args.x -ℤ c.args.g)
-  d_fits = (diff_of x_fin g_fin c.requires.within.0 c.requires.within.1).fits
-
 pub overflow_sub-d : goal.overflow_sub-d
-overflow_sub-d c = rw (to_z-of_z c.ranges.x, to_z-of_z c.ranges.g) (d_fits c)
+overflow_sub-d c = rw (to_z-of_z c.ranges.x, to_z-of_z c.ranges.g) (diff_of (finite_word c.ranges.x c.requires.fin.0) (finite_word c.ranges.g c.requires.fin.1) c.requires.within.0 c.requires.within.1).fits
 
 pub returns-then-d-m : goal.returns-then-d-m
 returns-then-d-m c =
-    let fx = c.ranges.x in let fg = c.ranges.g in let fm = c.ranges.m in let fd = d_fits c in
+    let fx = c.ranges.x in let fg = c.ranges.g in let fm = c.ranges.m in let fd = (diff_of (finite_word c.ranges.x c.requires.fin.0) (finite_word c.ranges.g c.requires.fin.1) c.requires.within.0 c.requires.within.1).fits in
     let t : lt_z (c.args.x -ℤ c.args.g) c.args.m ≡ true = simp to_z-of_z at c.if-d-m.true in
     simp to_z-of_z
-    (under_new c.args.m c.args.x c.args.g fm (x_fin c) (g_fin c) c.requires.within.0 c.requires.within.1
+    (under_new c.args.m c.args.x c.args.g fm (finite_word c.ranges.x c.requires.fin.0) (finite_word c.ranges.g c.requires.fin.1) c.requires.within.0 c.requires.within.1
     (omega zarith))
 
 pub returns-else-d-m : goal.returns-else-d-m
 returns-else-d-m c =
-    let fx = c.ranges.x in let fg = c.ranges.g in let fm = c.ranges.m in let fd = d_fits c in
+    let fx = c.ranges.x in let fg = c.ranges.g in let fm = c.ranges.m in let fd = (diff_of (finite_word c.ranges.x c.requires.fin.0) (finite_word c.ranges.g c.requires.fin.1) c.requires.within.0 c.requires.within.1).fits in
     let t : lt_z (c.args.x -ℤ c.args.g) c.args.m ≡ false = simp to_z-of_z at c.if-d-m.false in
     simp to_z-of_z
-    (under_old c.args.m c.args.x c.args.g fm (x_fin c) (g_fin c) c.requires.within.0 c.requires.within.1
+    (under_old c.args.m c.args.x c.args.g fm (finite_word c.ranges.x c.requires.fin.0) (finite_word c.ranges.g c.requires.fin.1) c.requires.within.0 c.requires.within.1
     (omega zarith))

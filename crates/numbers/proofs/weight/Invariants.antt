@@ -18,7 +18,6 @@ use Rattle.numbers.proofs.weight.Given as goal
 abbrev pub invariant-loop-j : goal.invariant-loop-j
 invariant-loop-j l =
     (l.j ≤ length l.x)
-    × (l.m < 4294967296)
     × (meet (allowed l.j (entries l.g) (entries l.x)) (cap_of l.m) ≡ allowed (length l.x) (entries l.g) (entries l.x))
 
 abbrev pub decreases-loop-j : goal.decreases-loop-j
