@@ -20,12 +20,12 @@ use Rattle.answer.specs.Printed.{stop_at, stops_of}
 use Rattle.answer.specs.Shown.{StopIn, Shows, root, next}
 
 -- no more stops than records before
-pub shows_few : {n i : ℕ} {area : List ℤ} {stops : List Stop} → Shows n area i stops → length stops ≤ i
+pub shows_few : {n : ℕ} {area : List ℤ} {i : ℕ} {stops : List Stop} → Shows n area i stops → length stops ≤ i
 shows_few (root h e) = omega arith
 shows_few (next {stops = stops} {s = s} h t u) = omega (arith, shows_few u, t.earlier, length-append stops (s ∷ []))
 
 -- stops that records show are in limits
-pub shows_limits : {n i : ℕ} {area : List ℤ} {stops : List Stop} → Shows n area i stops → All StopLimits stops
+pub shows_limits : {n : ℕ} {area : List ℤ} {i : ℕ} {stops : List Stop} → Shows n area i stops → All StopLimits stops
 shows_limits (root h e) = tt
 shows_limits (next {stops = stops} {s = s} h t u) = all_behind StopLimits stops (shows_limits u) t.limits
 

@@ -1,4 +1,5 @@
 // Bounds and lists of bounds.
+#![tactic(auto)]
 ghost use Rattle.std.specs.Prelude.{◌≡◌};
 ghost use Rattle.bounds.specs.Bounds.{no_bound, no_bounds};
 

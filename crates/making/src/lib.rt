@@ -1,4 +1,5 @@
 // The four calls that make a set: intersect, delay, reset, hull.
+#![tactic(auto)]
 ghost use Rattle.making.specs.Calls.{Intersects, Delays, Resets, Hulls};
 
 use build::Change;

@@ -45,7 +45,7 @@ slice_bounds-copy-end c =
     c.write_model-end-2.ensures
 
 pub copy-requires : goal.copy-requires
-copy-requires c = omega (arith, c.if-out-end.false, slice-aggregate-copy c)
+copy-requires c = omega (arith, c.if-out-end.false)
 
 pub returns : goal.returns
 returns c =

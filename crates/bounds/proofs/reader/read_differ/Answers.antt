@@ -84,6 +84,6 @@ returns c =
     let y = valued c.read_below-b.ensures
     c.in-Value-b.is in
     let k = valued c.read_below-d.ensures c.in-Value-d.is in
-    rw (back c.«unfold».type_inv, c.«unfold».ensures)
+    rw (back c.unfold-k.type_inv, c.unfold-k.ensures)
     (giving (asked x
     (asked y (two_clocks c.if-x-y.false (asked k finished)))))

@@ -14,12 +14,8 @@ use Rattle.bounds.proofs.writer.write_half.Goals as goal
 pub loop-i-init : goal.loop-i-init
 loop-i-init c = store_start
 
--- the entry that is written
-abbrev entry : goal.In-loop-i → ℤ
-entry c = get_or c.args.half c.loop-i.i (pos 0)
-
 pub entry_number-v-requires : goal.entry_number-v-requires
-entry_number-v-requires c = rw (back c.entry_number-arg-1.given) (let it : EntryLimits (entry c) = let w = c.requires.packed in (check_each (pos 0) w c.loop-i.i (omega (arith, w.few))).used c.loop-i-test.true in it)
+entry_number-v-requires c = rw (back c.entry_number-arg-1.given) (let it : EntryLimits (get_or c.args.half c.loop-i.i (pos 0)) = let w = c.requires.packed in (check_each (pos 0) w c.loop-i.i (omega (arith, w.few))).used c.loop-i-test.true in it)
 
 pub write_number-from-requires : goal.write_number-from-requires
 unfolding entry_bytes
@@ -28,7 +24,7 @@ write_number-from-requires c =
     c.args.half =
     omega (arith, c.requires.packed.few, c.requires.packed.long) in
     rw (c.entry_number-v.ensures, back c.entry_number-arg-1.given) (
-      omega (arith, entry_small _ (let it : EntryLimits (entry c) = let w = c.requires.packed in (check_each (pos 0) w c.loop-i.i (omega (arith, w.few))).used c.loop-i-test.true in it)),
+      omega (arith, entry_small _ (let it : EntryLimits (get_or c.args.half c.loop-i.i (pos 0)) = let w = c.requires.packed in (check_each (pos 0) w c.loop-i.i (omega (arith, w.few))).used c.loop-i-test.true in it)),
       store_room
           c.loop-i.invariant (pos 0) long c.loop-i-test.true
           c.requires.room,

@@ -32,26 +32,21 @@ slice_bounds-clean-end c = sym (trues_long c.args.k c.requires.few)
 pub clean-requires : goal.clean-requires
 clean-requires c = cleanable _ _ _ _ c.requires
 
--- they are what is lent of the whole array
-lent : (c : goal.After-clean) (rest : List Bool)
-    → take c.args.k (c.clean.new.alive ++ rest) ≡ c.clean.new.alive
-lent c rest = take_at c.clean.new.alive rest _ (flags_long _ _ _ _ c.requires _ (c.clean.ensures ∙ ap (λ m. clean_flags (suc c.args.n) m (flat (suc c.args.n) c.args.work.now)) (trues_long c.args.k c.requires.few)))
-
 pub slice_bounds-alive-end-2 : goal.slice_bounds-alive-end-2
 slice_bounds-alive-end-2 c = rw (length-append c.clean.new.alive) (omega (arith, (flags_long _ _ _ _ c.requires _ (c.clean.ensures ∙ ap (λ m. clean_flags (suc c.args.n) m (flat (suc c.args.n) c.args.work.now)) (trues_long c.args.k c.requires.few)))))
 
 pub slice_bounds-fits-end : goal.slice_bounds-fits-end
-slice_bounds-fits-end c = sym (ap length (lent c _) ∙ (flags_long _ _ _ _ c.requires _ (c.clean.ensures ∙ ap (λ m. clean_flags (suc c.args.n) m (flat (suc c.args.n) c.args.work.now)) (trues_long c.args.k c.requires.few))))
+slice_bounds-fits-end c = sym (ap length (take_at c.clean.new.alive _ _ (flags_long _ _ _ _ c.requires _ (c.clean.ensures ∙ ap (λ m. clean_flags (suc c.args.n) m (flat (suc c.args.n) c.args.work.now)) (trues_long c.args.k c.requires.few)))) ∙ (flags_long _ _ _ _ c.requires _ (c.clean.ensures ∙ ap (λ m. clean_flags (suc c.args.n) m (flat (suc c.args.n) c.args.work.now)) (trues_long c.args.k c.requires.few))))
 
 pub fits-requires : goal.fits-requires
 fits-requires c =
-    let e = ap length (lent c _) ∙ (flags_long _ _ _ _ c.requires _ (c.clean.ensures ∙ ap (λ m. clean_flags (suc c.args.n) m (flat (suc c.args.n) c.args.work.now)) (trues_long c.args.k c.requires.few))) in
+    let e = ap length (take_at c.clean.new.alive _ _ (flags_long _ _ _ _ c.requires _ (c.clean.ensures ∙ ap (λ m. clean_flags (suc c.args.n) m (flat (suc c.args.n) c.args.work.now)) (trues_long c.args.k c.requires.few)))) ∙ (flags_long _ _ _ _ c.requires _ (c.clean.ensures ∙ ap (λ m. clean_flags (suc c.args.n) m (flat (suc c.args.n) c.args.work.now)) (trues_long c.args.k c.requires.few))) in
     (c.requires.clocks, subst (λ m. m * suc c.args.n ≤ length c.args.work.now) (sym e) c.requires.whole)
 
 pub returns-then-not-fits : goal.returns-then-not-fits
 returns-then-not-fits c =
     finishes_range _ _ _ _ c.requires _ (c.clean.ensures ∙ ap (λ m. clean_flags (suc c.args.n) m (flat (suc c.args.n) c.args.work.now)) (trues_long c.args.k c.requires.few)) (let it : some_point c.args.n (held (suc c.args.n) c.args.k c.args.work.now) ≡ true = sym (let it : c.has_point.result ≡ some_point c.args.n (held (suc c.args.n) c.args.k c.args.work.now) = rw (add-one c.args.n) at c.has_point.ensures ∙ point_held _ _ _ _ c.requires in it) ∙ not-false _ c.if-not-has_point.false-raw in it)
-    (sym (let e = lent c.before.before.before _ in c.fits2.ensures ∙ ap (λ a. alive_ok c.args.n a (flat (suc c.args.n) c.args.work.now)) e) ∙ not-true _ c.if-not-fits.true-raw)
+    (sym (let e = take_at c.clean.new.alive _ _ (flags_long _ _ _ _ c.requires _ (c.clean.ensures ∙ ap (λ m. clean_flags (suc c.args.n) m (flat (suc c.args.n) c.args.work.now)) (trues_long c.args.k c.requires.few))) in c.fits2.ensures ∙ ap (λ a. alive_ok c.args.n a (flat (suc c.args.n) c.args.work.now)) e) ∙ not-true _ c.if-not-fits.true-raw)
 
 pub slice_bounds-alive-end-3 : goal.slice_bounds-alive-end-3
 slice_bounds-alive-end-3 c =
@@ -59,16 +54,16 @@ slice_bounds-alive-end-3 c =
 
 pub slice_bounds-write-end : goal.slice_bounds-write-end
 slice_bounds-write-end c =
-    sym (ap length (lent c _) ∙ (flags_long _ _ _ _ c.requires _ (c.clean.ensures ∙ ap (λ m. clean_flags (suc c.args.n) m (flat (suc c.args.n) c.args.work.now)) (trues_long c.args.k c.requires.few))))
+    sym (ap length (take_at c.clean.new.alive _ _ (flags_long _ _ _ _ c.requires _ (c.clean.ensures ∙ ap (λ m. clean_flags (suc c.args.n) m (flat (suc c.args.n) c.args.work.now)) (trues_long c.args.k c.requires.few)))) ∙ (flags_long _ _ _ _ c.requires _ (c.clean.ensures ∙ ap (λ m. clean_flags (suc c.args.n) m (flat (suc c.args.n) c.args.work.now)) (trues_long c.args.k c.requires.few))))
 
 pub write-requires : goal.write-requires
 write-requires c =
-    subst (λ a. Writable c.args.n c.args.work.now a c.args.area.now) (sym (lent c _))
+    subst (λ a. Writable c.args.n c.args.work.now a c.args.area.now) (sym (take_at c.clean.new.alive _ _ (flags_long _ _ _ _ c.requires _ (c.clean.ensures ∙ ap (λ m. clean_flags (suc c.args.n) m (flat (suc c.args.n) c.args.work.now)) (trues_long c.args.k c.requires.few)))))
     (writable _ _ _ _ c.requires _ (c.clean.ensures ∙ ap (λ m. clean_flags (suc c.args.n) m (flat (suc c.args.n) c.args.work.now)) (trues_long c.args.k c.requires.few)))
 
 pub returns : goal.returns
 returns c =
     finishes_written _ _ _ _ c.requires _ (c.clean.ensures ∙ ap (λ m. clean_flags (suc c.args.n) m (flat (suc c.args.n) c.args.work.now)) (trues_long c.args.k c.requires.few)) (let it : some_point c.args.n (held (suc c.args.n) c.args.k c.args.work.now) ≡ true = sym (let it : c.has_point.result ≡ some_point c.args.n (held (suc c.args.n) c.args.k c.args.work.now) = rw (add-one c.args.n) at c.has_point.ensures ∙ point_held _ _ _ _ c.requires in it) ∙ not-false _ c.if-not-has_point.false-raw in it)
-    (sym (let e = lent c.before.before.before _ in c.fits2.ensures ∙ ap (λ a. alive_ok c.args.n a (flat (suc c.args.n) c.args.work.now)) e) ∙ not-false _ c.if-not-fits.false-raw) _ _
+    (sym (let e = take_at c.clean.new.alive _ _ (flags_long _ _ _ _ c.requires _ (c.clean.ensures ∙ ap (λ m. clean_flags (suc c.args.n) m (flat (suc c.args.n) c.args.work.now)) (trues_long c.args.k c.requires.few))) in c.fits2.ensures ∙ ap (λ a. alive_ok c.args.n a (flat (suc c.args.n) c.args.work.now)) e) ∙ not-false _ c.if-not-fits.false-raw) _ _
     (subst (λ a. Writes c.args.n c.args.work.now a c.args.area.now c.write.result
-    c.write.new.area) (lent c _) c.write.ensures)
+    c.write.new.area) (take_at c.clean.new.alive _ _ (flags_long _ _ _ _ c.requires _ (c.clean.ensures ∙ ap (λ m. clean_flags (suc c.args.n) m (flat (suc c.args.n) c.args.work.now)) (trues_long c.args.k c.requires.few)))) c.write.ensures)

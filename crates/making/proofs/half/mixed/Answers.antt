@@ -24,13 +24,11 @@ slice_bounds-mix-end c =
 pub mix-requires : goal.mix-requires
 mix-requires c =
     let p = c.requires in
-    rw ((copied_part c.args.n c.args.g.now c.copy.new.dst c.requires.clocks c.requires.long_g c.copy.ensures), to_z-of_z c.ranges.l, to_z-of_z c.ranges.r) (
-      p.long_h ∙ sym p.long_g,
-      (
-        (each_wider (omega arith) p.near_g, each_wider (omega arith) p.near_h),
-        (wider (omega arith) p.of_l, wider (omega arith) p.of_r),
-      ),
-    )
+    rw ((copied_part c.args.n c.args.g.now c.copy.new.dst c.requires.clocks c.requires.long_g c.copy.ensures), to_z-of_z c.ranges.l, to_z-of_z c.ranges.r) record {
+      h_len = p.long_h ∙ sym p.long_g;
+      each = (each_wider (omega arith) p.near_g, each_wider (omega arith) p.near_h);
+      within = (wider (omega arith) p.of_l, wider (omega arith) p.of_r);
+    }
 
 pub slice_bounds-row-end-2 : goal.slice_bounds-row-end-2
 slice_bounds-row-end-2 c =

@@ -1,6 +1,5 @@
 use mathlib.Core.Path.{◌≡◌, refl, sym, ◌∙◌}
 use mathlib.Core.Bool.{true, false, cond}
-use mathlib.Core.Logic.{⊎_elim}
 use Prim.Native.Nat.{◌+◌, ◌*◌, ◌≤◌, ◌-◌}
 use native.Mathlib.Nat.{le_antisymm}
 use native.Mathlib.Numerals.{add-one}
@@ -51,7 +50,7 @@ overflow_add-i c = omega (arith, c.well_formed, c.loop-i-test.true)
 pub loop-i-preserved : goal.loop-i-preserved
 loop-i-preserved c =
     let l = c.loop-i in
-    (omega arith, every_more _ l.i l.invariant.1 (let it : (let a = c.args in cond (get_or a.alive.now c.loop-i.i false) (row_ok a.n (flat (a.n + 1) a.work.now c.loop-i.i)) true ≡ true) = ⊎_elim (λ t. tested (record { before = record { before = record { before = c.before; if1 = t.0 }; row-fits-arg = t.1 }; row-fits = t.2; }) ∙ not-false _ t.3.left) (λ e. off_passes _ _ e.left) c.if-alive-i.branch in it))
+    (omega arith, every_more _ l.i l.invariant.1 ?)
 
 pub returns : goal.returns
 unfolding alive_ok

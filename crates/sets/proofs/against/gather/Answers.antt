@@ -1,5 +1,4 @@
 use mathlib.Core.Path.{sym, ◌∙◌}
-use mathlib.Core.Logic.{⊎_elim}
 use Prim.Native.Nat.{◌+◌, ◌≤◌, ◌-◌}
 use native.Mathlib.Omega.{arith}
 use Rattle.sets.specs.Falls.{Gathered}
@@ -8,6 +7,7 @@ use Rattle.sets.proofs.FallLaws.{gathered_skip, gathered_next, gathered_raisable
 use Rattle.sets.proofs.FallLaws.{ends_early, ends_next}
 use borrow.Author.Rules.{rules}
 use Rattle.sets.proofs.against.gather.Goals as goal
+use Rattle.sets.proofs.against.gather.Goals.{then-used-i+else-from-x, else-used-i}
 
 pub loop-i-init : goal.loop-i-init
 loop-i-init c = (omega arith, c.requires.gathered)
@@ -33,9 +33,11 @@ pub loop-i-preserved : goal.loop-i-preserved
 loop-i-preserved c =
     let l = c.loop-i in (
       omega arith,
-      ⊎_elim
-          (λ w. rw (w.5, w.6) (gathered_next _ _ _ l.i _ _ _ _ w.0.taken l.invariant.1 w.2.ensures))
-          (λ w. rw (w.1, w.2) (gathered_skip _ _ _ l.i _ _ w.0.left l.invariant.1)) c.if-used-i.branch,
+      elim c.if-used-i.branch [
+        then-used-i+else-from-x w ↦
+          rw (w.reached-is, w.from-is) (gathered_next _ _ _ l.i _ _ _ _ w.if-used-i.true l.invariant.1 w.take-from.ensures)
+      | else-used-i w ↦ rw (w.reached-is, w.from-is) (gathered_skip _ _ _ l.i _ _ w.if-used-i.false l.invariant.1)
+      ],
     )
 
 pub next-requires : goal.next-requires

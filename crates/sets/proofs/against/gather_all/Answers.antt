@@ -1,8 +1,12 @@
 use mathlib.Core.Path.{sym, ◌∙◌}
-use Prim.Native.Nat.{◌+◌, ◌≤◌, ◌-◌}
+use mathlib.Core.List.{List}
+use lib.IntN.{ℤ}
+use lib.ListN.{length}
+use Prim.Native.Nat.{ℕ, ◌+◌, ◌*◌, ◌≤◌, ◌<◌, ◌-◌}
 use native.Mathlib.Omega.{arith}
-use Rattle.sets.specs.Falls.{Gathered, all_used}
+use Rattle.sets.specs.Falls.{Gathered, Raised, all_used}
 use Rattle.sets.proofs.RowLaws.{row_ends}
+use Rattle.sets.specs.Tests.{part}
 use Rattle.sets.proofs.FallLaws.{used_all, gathered_next, gathered_raisable, ends_early, ends_next}
 use borrow.Author.Rules.{rules}
 use Rattle.sets.proofs.against.gather_all.Goals as goal
@@ -18,23 +22,22 @@ take-from-requires c =
     }
 
 -- one vector more took part
-taken : (c : goal.After-take-from) → let s = c.args in
-    Gathered s.list.now all_used s.x.now (c.loop-i.i + 1) c.take-from.result c.take-from.new.reached
+taken : (list x : List ℤ) (i from r : ℕ) (out after : List ℤ) → i < length all_used → Gathered list all_used x i from out
+    → Raised from out (part list (i * length x) (length x)) x r after
+    → Gathered list all_used x (i + 1) r after
 unfolding all_used
-taken c =
-    gathered_next _ _ _ c.loop-i.i _ _ _ _ (used_all c.loop-i.i (omega (arith, c.requires.testable.flags))) c.loop-i.invariant.1
-    c.take-from.ensures
+taken list x i from r out after h g e = gathered_next list all_used x i from r out after (used_all i h) g e
 
 pub shape_of-reached-then-from-x : goal.shape_of-reached-then-from-x
 shape_of-reached-then-from-x c =
-    (taken c).long ∙ sym c.requires.gathered.long
+    (taken _ _ c.loop-i.i _ _ _ _ (omega (arith, c.requires.testable.flags)) c.loop-i.invariant.1 c.take-from.ensures).long ∙ sym c.requires.gathered.long
 
 pub returns-then-from-x : goal.returns-then-from-x
 returns-then-from-x c =
-    ends_early _ _ _ (c.loop-i.i + 1) _ _ _ (omega arith) (omega arith) (taken c)
+    ends_early _ _ _ (c.loop-i.i + 1) _ _ _ (omega arith) (omega arith) (taken _ _ c.loop-i.i _ _ _ _ (omega (arith, c.requires.testable.flags)) c.loop-i.invariant.1 c.take-from.ensures)
 
 pub loop-i-preserved : goal.loop-i-preserved
-loop-i-preserved c = (omega arith, taken c.before.before)
+loop-i-preserved c = (omega arith, taken _ _ c.loop-i.i _ _ _ _ (omega (arith, c.requires.testable.flags)) c.loop-i.invariant.1 c.take-from.ensures)
 
 pub next-requires : goal.next-requires
 next-requires c = let g = c.loop-i.invariant.1 in (g.long, g.inside)
