@@ -8,7 +8,7 @@ use borrow.Author.Rules.{rules}
 use Rattle.bounds.proofs.limits.bound_blank.Goals as goal
 
 pub returns-in_default : goal.returns-in_default
-returns-in_default c = never (λ e. not_at_most _ c.in_default.in_default-own.keys2 (ap (λ (b : Bound). b.kind) e))
+returns-in_default c = never (λ e. c.in_default.not-AtMost (ap (λ (b : Bound). b.kind) e))
 
 pub returns-then-b-ne0 : goal.returns-then-b-ne0
 returns-then-b-ne0 c = never (λ e. c.if-b-ne0.true (ap (λ (b : Bound). b.x) e))

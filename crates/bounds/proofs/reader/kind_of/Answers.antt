@@ -3,16 +3,16 @@ use borrow.Author.Tests.{ne_eqb}
 use Rattle.bounds.proofs.reader.kind_of.Goals as goal
 
 pub returns-in-0 : goal.returns-in-0
-returns-in-0 c = ?
+returns-in-0 c = rw c.in-0.is refl
 
 pub returns-in-1 : goal.returns-in-1
-returns-in-1 c = ?
+returns-in-1 c = rw c.in-1.is refl
 
 pub returns-in-2 : goal.returns-in-2
-returns-in-2 c = ?
+returns-in-2 c = rw c.in-2.is refl
 
 pub returns-in-3 : goal.returns-in-3
-returns-in-3 c = ?
+returns-in-3 c = rw c.in-3.is refl
 
 pub returns-in_default : goal.returns-in_default
 returns-in_default c =
