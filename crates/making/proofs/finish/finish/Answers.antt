@@ -46,7 +46,7 @@ fits-requires c =
 pub returns-then-not-fits : goal.returns-then-not-fits
 returns-then-not-fits c =
     finishes_range _ _ _ _ c.requires _ (c.clean.ensures ∙ ap (λ m. clean_flags (suc c.args.n) m (flat (suc c.args.n) c.args.work.now)) (trues_long c.args.k c.requires.few)) (let it : some_point c.args.n (held (suc c.args.n) c.args.k c.args.work.now) ≡ true = sym (let it : c.has_point.result ≡ some_point c.args.n (held (suc c.args.n) c.args.k c.args.work.now) = rw (add-one c.args.n) at c.has_point.ensures ∙ point_held _ _ _ _ c.requires in it) ∙ not-false _ c.if-not-has_point.false-raw in it)
-    (sym (let e = take_at c.clean.new.alive _ _ (flags_long _ _ _ _ c.requires _ (c.clean.ensures ∙ ap (λ m. clean_flags (suc c.args.n) m (flat (suc c.args.n) c.args.work.now)) (trues_long c.args.k c.requires.few))) in c.fits2.ensures ∙ ap (λ a. alive_ok c.args.n a (flat (suc c.args.n) c.args.work.now)) e) ∙ not-true _ c.if-not-fits.true-raw)
+    (sym (let e = take_at c.clean.new.alive _ _ (flags_long _ _ _ _ c.requires _ (c.clean.ensures ∙ ap (λ m. clean_flags (suc c.args.n) m (flat (suc c.args.n) c.args.work.now)) (trues_long c.args.k c.requires.few))) in c.fits.ensures ∙ ap (λ a. alive_ok c.args.n a (flat (suc c.args.n) c.args.work.now)) e) ∙ not-true _ c.if-not-fits.true-raw)
 
 pub slice_bounds-alive-end-3 : goal.slice_bounds-alive-end-3
 slice_bounds-alive-end-3 c =
@@ -64,6 +64,6 @@ write-requires c =
 pub returns : goal.returns
 returns c =
     finishes_written _ _ _ _ c.requires _ (c.clean.ensures ∙ ap (λ m. clean_flags (suc c.args.n) m (flat (suc c.args.n) c.args.work.now)) (trues_long c.args.k c.requires.few)) (let it : some_point c.args.n (held (suc c.args.n) c.args.k c.args.work.now) ≡ true = sym (let it : c.has_point.result ≡ some_point c.args.n (held (suc c.args.n) c.args.k c.args.work.now) = rw (add-one c.args.n) at c.has_point.ensures ∙ point_held _ _ _ _ c.requires in it) ∙ not-false _ c.if-not-has_point.false-raw in it)
-    (sym (let e = take_at c.clean.new.alive _ _ (flags_long _ _ _ _ c.requires _ (c.clean.ensures ∙ ap (λ m. clean_flags (suc c.args.n) m (flat (suc c.args.n) c.args.work.now)) (trues_long c.args.k c.requires.few))) in c.fits2.ensures ∙ ap (λ a. alive_ok c.args.n a (flat (suc c.args.n) c.args.work.now)) e) ∙ not-false _ c.if-not-fits.false-raw) _ _
+    (sym (let e = take_at c.clean.new.alive _ _ (flags_long _ _ _ _ c.requires _ (c.clean.ensures ∙ ap (λ m. clean_flags (suc c.args.n) m (flat (suc c.args.n) c.args.work.now)) (trues_long c.args.k c.requires.few))) in c.fits.ensures ∙ ap (λ a. alive_ok c.args.n a (flat (suc c.args.n) c.args.work.now)) e) ∙ not-false _ c.if-not-fits.false-raw) _ _
     (subst (λ a. Writes c.args.n c.args.work.now a c.args.area.now c.write.result
     c.write.new.area) (take_at c.clean.new.alive _ _ (flags_long _ _ _ _ c.requires _ (c.clean.ensures ∙ ap (λ m. clean_flags (suc c.args.n) m (flat (suc c.args.n) c.args.work.now)) (trues_long c.args.k c.requires.few)))) c.write.ensures)

@@ -14,6 +14,7 @@ use Rattle.making.specs.Finish.{row_ok, alive_ok}
 use Rattle.making.proofs.RangeLaws.{row_room, row_test, off_passes, on_is}
 use borrow.Author.Rules.{rules}
 use Rattle.making.proofs.range.fits.Goals as goal
+use Rattle.making.proofs.range.fits.Goals.{then-alive-i+else-not-row_fits, else-alive-i}
 
 pub loop-i-init : goal.loop-i-init
 loop-i-init c = (omega arith, refl)
@@ -50,7 +51,12 @@ overflow_add-i c = omega (arith, c.well_formed, c.loop-i-test.true)
 pub loop-i-preserved : goal.loop-i-preserved
 loop-i-preserved c =
     let l = c.loop-i in
-    (omega arith, every_more _ l.i l.invariant.1 ?)
+    (omega arith, every_more _ l.i l.invariant.1 (elim c.if-alive-i.branch [
+      then-alive-i+else-not-row_fits w ↦
+        on_is _ _ w.if-alive-i.true ∙ sym (row_test c.args.n c.args.work.now l.i) ∙ sym w.row_fits.ensures
+        ∙ not-false _ w.if-not-row_fits.false-raw
+    | else-alive-i w ↦ off_passes _ _ w.if-alive-i.false
+    ]))
 
 pub returns : goal.returns
 unfolding alive_ok
