@@ -1,5 +1,6 @@
 // The text of an answer, written into a lent area. Each function says where its bytes end.
 #![tactic(auto)]
+
 ghost use Rattle.std.specs.Prelude.{◌∷◌, [], ◌++◌};
 ghost use Rattle.codec.specs.Answers.{Writes, Room};
 ghost use Rattle.runs.specs.Verdicts.{answer_by};

@@ -45,7 +45,9 @@ slice_bounds-copy-end c =
     c.write_model-end-2.ensures
 
 pub copy-requires : goal.copy-requires
-copy-requires c = omega (arith, c.if-out-end.false)
+copy-requires c =
+    omega (arith, c.if-out-end.false, taken _ (free_room _ (c.model_fits-fits.ensures.yes (not-false _ c.if-not-fits.false-raw)))
+    c.write_model-end-2.ensures)
 
 pub returns : goal.returns
 returns c =

@@ -58,11 +58,8 @@ pub returns : goal.returns
 returns c =
     let m = c.args.m in
     let m-numbers = (c.numbers_fit-fits.ensures.yes (not-false _ c.if-not-fits.false-raw)) in
-    let good = c.well_formed.0 in
-    let lists : length m.invariants ≡ 32 =
-    sym (length-map m.invariants _) ∙ good.1.1.1.1.1.1.0.1.0.1 in
-    let places : length m.steps ≡ 64 =
-    sym (length-map m.steps _) ∙ good.1.1.1.1.1.1.1.0.1.0.1 in
+    let lists : length m.invariants ≡ 32 = search rules in
+    let places : length m.steps ≡ 64 = search rules in
     let is = check_done m-numbers.locations lists (omega (arith, c.loop-i-test.false))
     c.loop-i.invariant in
     let es = check_done m-numbers.edges places (omega (arith, c.loop-k-test.false))
