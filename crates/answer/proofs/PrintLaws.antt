@@ -65,17 +65,13 @@ module _ (m : Model) (limits : ModelLimits m) (before : List ℤ) (v : Verdict) 
   }
 
   -- the first line is all, where the verdict is not REACHED
-  pub prints_head : {text text' : List ℕ} {end : ℕ}
-      → (tag_of the-verdict v ≡ 1) ⊎ (tag_of the-verdict v ≡ 2) ⊎ (tag_of the-verdict v ≡ 3)
+  pub prints_head : {text text' : List ℕ} {end : ℕ} → ((d k t : ℕ) → v ≡ Reached d k t → ⊥)
       → Writes text 0 (head_of (answer_by v)) text' end → PrintsModel m before text after text' end
   prints_head {text} {text'} {end} t w = prints (subst (λ (b : List ℕ). Writes text 0 b text' end)
       (sym (ap (λ (l : List ℕ). head_of (answer_by v) ++ l) (none v t) ∙ append-nil (head_of (answer_by v)))) w)
     where
-      none : (u : Verdict) → (tag_of the-verdict u ≡ 1) ⊎ (tag_of the-verdict u ≡ 2) ⊎ (tag_of the-verdict u ≡ 3)
-          → lines_of (stops_by (answer_by v)) (answer_by u) ≡ []
-      none (Reached d k t) (inl q) = absurd (omega (arith, q))
-      none (Reached d k t) (inr (inl q)) = absurd (omega (arith, q))
-      none (Reached d k t) (inr (inr q)) = absurd (omega (arith, q))
+      none : (u : Verdict) → ((d k t : ℕ) → u ≡ Reached d k t → ⊥) → lines_of (stops_by (answer_by v)) (answer_by u) ≡ []
+      none (Reached d k t) q = absurd (q d k t refl)
       none (Never k t) q = refl
       none (Open d k t) q = refl
       none (Refused e) q = refl

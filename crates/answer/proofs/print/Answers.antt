@@ -9,7 +9,7 @@ head-at-requires c =
 
 pub returns-in_default : goal.returns-in_default
 returns-in_default c =
-    prints_head (model_by c.args.bytes.now c.args.outline) c.requires.outlined.limits _ _ _ c.walk_outline-v.ensures c.in_default.in_default-own.keys2 c.head-at.ensures
+    prints_head (model_by c.args.bytes.now c.args.outline) c.requires.outlined.limits _ _ _ c.walk_outline-v.ensures c.in_default.not-Reached c.head-at.ensures
 
 pub overflow_sub-kept : goal.overflow_sub-kept
 overflow_sub-kept c =

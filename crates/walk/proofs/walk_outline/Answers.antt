@@ -19,7 +19,7 @@ begin-v-requires c =
 
 pub returns-in_default : goal.returns-in_default
 returns-in_default c =
-    walks_found (model_by c.args.bytes.now c.args.outline) c.requires.limits _ (let it : (let a = c.args in record_size a.outline.clocks ≤ length a.area.now) = omega (arith, c.size-size.ensures, c.if-area-size.false) in it) _ _ (found_in (model_by c.args.bytes.now c.args.outline) c.requires.limits _ c.room-room.ensures c.begin-v.ensures) (not_refused _ c.in_default.in_default-own.keys2)
+    walks_found (model_by c.args.bytes.now c.args.outline) c.requires.limits _ (let it : (let a = c.args in record_size a.outline.clocks ≤ length a.area.now) = omega (arith, c.size-size.ensures, c.if-area-size.false) in it) _ _ (found_in (model_by c.args.bytes.now c.args.outline) c.requires.limits _ c.room-room.ensures c.begin-v.ensures) c.in_default.not-Refused
 
 pub returns : goal.returns
 returns c =

@@ -1,6 +1,5 @@
 use native.Mathlib.Omega.{arith}
 use mathlib.Core.List.{List}
-use mathlib.Core.Logic.{⊎_elim}
 use mathlib.Core.Path.{◌≡◌, refl, sym, ap, ◌∙◌}
 use Prim.Native.Nat.{◌+◌, ◌-◌, ◌≤◌, ◌<◌}
 use lib.IntN.{ℤ}
@@ -16,6 +15,7 @@ use Rattle.walk.proofs.FormLaws.{try_stays, does_same}
 use Rattle.walk.proofs.Turns.{Turning, turn_first, turns_on, turns_end, turns_done, ready_on, does_more, not_going}
 use borrow.Author.Rules.{rules}
 use Rattle.walk.proofs.layers.expand.Goals as goal
+use Rattle.walk.proofs.layers.expand.Goals.{then-source-here, else-source-here}
 
 pub overflow_cast-n : goal.overflow_cast-n
 overflow_cast-n c = omega (arith, c.requires.0.limits.numbers.clocks)
@@ -59,12 +59,12 @@ follow-r-requires c =
     }
 
 pub shape_of-area-in_default : goal.shape_of-area-in_default
-shape_of-area-in_default c = (⊎_elim (λ t. ap (λ (a : List ℤ). length a) t.4 ∙ t.2.kept.1.1.0) (λ t. ap (λ (a : List ℤ). length a) t.1) c.if-source-here.branch) ∙ c.loop-e.invariant.1
+shape_of-area-in_default c = c.if-source-here.auto.area ∙ c.loop-e.invariant.1
 
 pub returns-in_default : goal.returns-in_default
 returns-in_default c =
     does_more (omega (arith, c.requires.3, (let it : c.loop-e.e < 64 = omega (arith, c.loop-e-test.true, c.requires.0.limits.numbers.edges) in it)))
-    (turns_end c.loop-e.invariant.2 c.loop-e-test.true (let it : (let a = c.args in Does a.outline.clocks a.room c.loop-e.s.kept (a.y.tried + (c.loop-e.e + 1)) (try_edge (plain (model_by a.bytes.now a.outline)).system a.room a.i c.loop-e.e (walk_in a.outline.clocks c.loop-e.s c.loop-e.area)) c.loop-e.area c.if-source-here.r c.if-source-here.area) = let g = c.loop-e.invariant.2.grows in let h = c.requires.0 in let m = model_by c.args.bytes.now c.args.outline in let inside : c.args.i < c.loop-e.s.kept = omega (arith, c.requires.2, g.more) in let E = get_or m.steps c.loop-e.e past_edge in let here = c.locate-place.ensures.location in ⊎_elim (λ t. does_more (omega (arith, g.few)) (does_same t.5 t.4 t.2.ensures)) (λ t. does_same t.2 t.1 (goes_on (omega (arith, g.few)) (ready_on c.requires.1 c.loop-e.invariant.1 g) (try_stays m c.args.room c.args.i c.loop-e.e c.loop-e.s c.loop-e.area inside E (edge_at_lem m h.limits past_edge _ c.loop-e-test.true) (λ q. t.0.left (h.sources _ c.loop-e-test.true ∙ q ∙ sym here))))) c.if-source-here.branch in it) (not_going _ c.in_default.in_default-own.keys2))
+    (turns_end c.loop-e.invariant.2 c.loop-e-test.true (let it : (let a = c.args in Does a.outline.clocks a.room c.loop-e.s.kept (a.y.tried + (c.loop-e.e + 1)) (try_edge (plain (model_by a.bytes.now a.outline)).system a.room a.i c.loop-e.e (walk_in a.outline.clocks c.loop-e.s c.loop-e.area)) c.loop-e.area c.if-source-here.r c.if-source-here.area) = let g = c.loop-e.invariant.2.grows in let h = c.requires.0 in let m = model_by c.args.bytes.now c.args.outline in let inside : c.args.i < c.loop-e.s.kept = omega (arith, c.requires.2, g.more) in let E = get_or m.steps c.loop-e.e past_edge in let here = c.locate-place.ensures.location in elim c.if-source-here.branch [ then-source-here t ↦ does_more (omega (arith, g.few)) (does_same t.r-is t.area-is t.follow-r.ensures) | else-source-here t ↦ does_same t.r-is t.area-is (goes_on (omega (arith, g.few)) (ready_on c.requires.1 c.loop-e.invariant.1 g) (try_stays m c.args.room c.args.i c.loop-e.e c.loop-e.s c.loop-e.area inside E (edge_at_lem m h.limits past_edge _ c.loop-e-test.true) (λ q. t.if-source-here.false (h.sources _ c.loop-e-test.true ∙ q ∙ sym here)))) ] in it) c.in_default.not-Going)
 
 pub overflow_add-e : goal.overflow_add-e
 overflow_add-e c = omega (arith, (let it : c.loop-e.e < 64 = omega (arith, c.loop-e-test.true, c.requires.0.limits.numbers.edges) in it))
@@ -76,8 +76,8 @@ pub loop-e-preserved : goal.loop-e-preserved
 loop-e-preserved c =
     (
       omega (arith, c.loop-e-test.true),
-      (⊎_elim (λ t. ap (λ (a : List ℤ). length a) t.4 ∙ t.2.kept.1.1.0) (λ t. ap (λ (a : List ℤ). length a) t.1) c.if-source-here.branch) ∙ c.loop-e.invariant.1,
-      turns_on c.loop-e.invariant.2 c.loop-e-test.true (let it : (let a = c.args in Does a.outline.clocks a.room c.loop-e.s.kept (a.y.tried + (c.loop-e.e + 1)) (try_edge (plain (model_by a.bytes.now a.outline)).system a.room a.i c.loop-e.e (walk_in a.outline.clocks c.loop-e.s c.loop-e.area)) c.loop-e.area c.if-source-here.r c.if-source-here.area) = let g = c.loop-e.invariant.2.grows in let h = c.requires.0 in let m = model_by c.args.bytes.now c.args.outline in let inside : c.args.i < c.loop-e.s.kept = omega (arith, c.requires.2, g.more) in let E = get_or m.steps c.loop-e.e past_edge in let here = c.locate-place.ensures.location in ⊎_elim (λ t. does_more (omega (arith, g.few)) (does_same t.5 t.4 t.2.ensures)) (λ t. does_same t.2 t.1 (goes_on (omega (arith, g.few)) (ready_on c.requires.1 c.loop-e.invariant.1 g) (try_stays m c.args.room c.args.i c.loop-e.e c.loop-e.s c.loop-e.area inside E (edge_at_lem m h.limits past_edge _ c.loop-e-test.true) (λ q. t.0.left (h.sources _ c.loop-e-test.true ∙ q ∙ sym here))))) c.if-source-here.branch in it) c.in-Going.is,
+      c.if-source-here.auto.area ∙ c.loop-e.invariant.1,
+      turns_on c.loop-e.invariant.2 c.loop-e-test.true (let it : (let a = c.args in Does a.outline.clocks a.room c.loop-e.s.kept (a.y.tried + (c.loop-e.e + 1)) (try_edge (plain (model_by a.bytes.now a.outline)).system a.room a.i c.loop-e.e (walk_in a.outline.clocks c.loop-e.s c.loop-e.area)) c.loop-e.area c.if-source-here.r c.if-source-here.area) = let g = c.loop-e.invariant.2.grows in let h = c.requires.0 in let m = model_by c.args.bytes.now c.args.outline in let inside : c.args.i < c.loop-e.s.kept = omega (arith, c.requires.2, g.more) in let E = get_or m.steps c.loop-e.e past_edge in let here = c.locate-place.ensures.location in elim c.if-source-here.branch [ then-source-here t ↦ does_more (omega (arith, g.few)) (does_same t.r-is t.area-is t.follow-r.ensures) | else-source-here t ↦ does_same t.r-is t.area-is (goes_on (omega (arith, g.few)) (ready_on c.requires.1 c.loop-e.invariant.1 g) (try_stays m c.args.room c.args.i c.loop-e.e c.loop-e.s c.loop-e.area inside E (edge_at_lem m h.limits past_edge _ c.loop-e-test.true) (λ q. t.if-source-here.false (h.sources _ c.loop-e-test.true ∙ q ∙ sym here)))) ] in it) c.in-Going.is,
     )
 
 pub shape_of-area : goal.shape_of-area

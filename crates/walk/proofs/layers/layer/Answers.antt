@@ -41,7 +41,7 @@ shape_of-area-in_default c =
 pub returns-in_default : goal.returns-in_default
 returns-in_default c =
     let t = c.loop-i-test.true in
-    does_more (omega (arith, t)) (turns_end c.loop-i.invariant.3 t c.expand-r.ensures (not_going _ c.in_default.in_default-own.keys2))
+    does_more (omega (arith, t)) (turns_end c.loop-i.invariant.3 t c.expand-r.ensures c.in_default.not-Going)
 
 pub overflow_add-i : goal.overflow_add-i
 overflow_add-i c =

@@ -47,7 +47,7 @@ shape_of-area-in_default c =
 pub returns-in_default : goal.returns-in_default
 returns-in_default c =
     finds_same c.ended.ensures
-    (layering_ends c.loop-d.invariant.2 c.loop-d-test.true c.layer-r.ensures (not_going _ c.in_default.in_default-own.keys2))
+    (layering_ends c.loop-d.invariant.2 c.loop-d-test.true c.layer-r.ensures c.in_default.not-Going)
 
 pub overflow_add-d-then-next-end : goal.overflow_add-d-then-next-end
 overflow_add-d-then-next-end c =

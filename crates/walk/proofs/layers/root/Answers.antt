@@ -21,7 +21,7 @@ pub returns-in_default : goal.returns-in_default
 returns-in_default c =
     finds_same c.ended.ensures (root_ends (plain (model_by c.args.bytes.now c.args.outline)).system c.args.outline.clocks c.args.room c.args.outline.depth c.args.list.now
     (root_did c.args.bytes.now c.args.outline c.requires.0 c.args.room c.args.area.now c.args.list.now c.list_at-bounds.result c.list_at-bounds.ensures _ _ refl refl c.store-r.ensures)
-    (not_going _ c.in_default.in_default-own.keys2))
+    c.in_default.not-Going)
 
 pub layers-requires : goal.layers-requires
 layers-requires c =
