@@ -1,5 +1,6 @@
 // The answer of the walk as text: from a model's bytes to the lines that a person reads.
 #![tactic(auto)]
+
 ghost use Rattle.model.specs.Outlines.{model_by};
 ghost use Rattle.answer.specs.Printed.{Prints};
 ghost use Rattle.answer.specs.Shown.{Printable, Lines, Ready, PrintsModel};
