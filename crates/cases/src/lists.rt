@@ -5,12 +5,13 @@ use crate::show::FILL;
 use crate::{show, text};
 use making::Made;
 use sets::Told;
+use std::io;
 
 // The words of the area: those of 33 vectors over 6 clocks.
 const MOST: usize = 231;
 
 // Answers whether the line can be read.
-pub fn run(name: &[u8], s: &[u8], at: usize) -> bool {
+pub fn run(rt: &impl Print, name: &[u8], s: &[u8], at: usize) -> io::Result<bool> {
     let mut numbers = [0, 231, 0];
     let mut first = [0i32; 240];
     let mut second = [0i32; 240];
@@ -18,44 +19,50 @@ pub fn run(name: &[u8], s: &[u8], at: usize) -> bool {
     let f = text::next_row(s, h.end, b'|', &mut first);
     let g = text::next_row(s, f.end, b'|', &mut second);
     if g.end != s.len() {
-        return false;
+        return Ok(false);
     }
     let k = f.count;
     let l = g.count;
-    answer(name, numbers, &first[0..k], &second[0..l])
+    answer(rt, name, numbers, &first[0..k], &second[0..l])
 }
 
 // Asks, or makes a set in the first words of an area.
-fn answer(name: &[u8], numbers: [i32; 3], first: &[i32], second: &[i32]) -> bool {
+fn answer(
+    rt: &impl Print,
+    name: &[u8],
+    numbers: [i32; 3],
+    first: &[i32],
+    second: &[i32],
+) -> io::Result<bool> {
     let n = text::size(numbers[0]);
     let k = text::place(name, b"contains included intersect delay hull reset");
     if k == 0 {
-        told(sets::contains(n, first, second));
-        return true;
+        told(rt, sets::contains(n, first, second))?;
+        return Ok(true);
     }
     if k == 1 {
-        told(sets::included(n, first, second));
-        return true;
+        told(rt, sets::included(n, first, second))?;
+        return Ok(true);
     }
     let words = text::size(numbers[1]);
     if MOST < words {
-        return false;
+        return Ok(false);
     }
     if 5 < k {
-        return false;
+        return Ok(false);
     }
     let mut area = [FILL; MOST];
     let lent = &mut area[0..words];
     let clock = text::size(numbers[2]);
-    made(make(k, n, clock, first, second, &mut *lent), lent, n);
-    true
+    made(rt, make(k, n, clock, first, second, &mut *lent), lent, n)?;
+    Ok(true)
 }
 
-fn told(answer: Told) {
+fn told(rt: &impl Print, answer: Told) -> io::Result<()> {
     match answer {
-        Told::Yes => show::print(b"yes"),
-        Told::No => show::print(b"no"),
-        Told::Refused(e) => show::refused(b"refused", e),
+        Told::Yes => show::print(rt, b"yes"),
+        Told::No => show::print(rt, b"no"),
+        Told::Refused(e) => show::refused(rt, b"refused", e),
     }
 }
 
@@ -78,16 +85,16 @@ fn only(row: &[i32]) -> i32 {
     if row.len() == 1 { row[0] } else { 0 }
 }
 
-fn made(answer: Made, area: &[i32], n: usize) {
+fn made(rt: &impl Print, answer: Made, area: &[i32], n: usize) -> io::Result<()> {
     match answer {
         Made::Vectors(k) => {
-            show::counted(b"vectors", k);
-            show::print(b", words");
-            show::result(area, words(n, k));
+            show::counted(rt, b"vectors", k)?;
+            show::print(rt, b", words")?;
+            show::result(rt, area, words(n, k))
         }
         Made::Refused(e) => {
-            show::refused(b"refused", e);
-            show::result(area, 0);
+            show::refused(rt, b"refused", e)?;
+            show::result(rt, area, 0)
         }
     }
 }

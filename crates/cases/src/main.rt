@@ -1,7 +1,10 @@
 // Runs the cases of standard input, one to a line, and prints the answer of each behind its label.
 // A line is `label: call numbers | row | row`; the heads of lists.rt, models.rt and walking.rt say which calls there are.
 // A line that is empty or begins with # is passed over.
-use libc::STDIN_FILENO;
+#![tactic(auto)]
+
+use std::io;
+use std::io::Read;
 
 mod lists; // lists.rt: the calls over lists
 mod models; // models.rt: reading and writing of models
@@ -12,51 +15,58 @@ mod walking; // walking.rt: walks over a lent area
 // The most bytes of standard input, and one more.
 const MOST: usize = 131072;
 
-fn main() {
+fn main(rt: HostRuntime) -> io::Result<()> {
     let mut input = [0u8; MOST];
-    let n = io::read_full(STDIN_FILENO, &mut input);
-    if n == MOST {
-        show::print(b"too many cases\n");
-        return;
+    let n = read(&mut rt.stdin(), &mut input)?;
+    if MOST <= n {
+        return show::print(&rt, b"too many cases\n");
     }
-    lines(&input[0..n]);
+    lines(&rt, &input[0..n])
 }
 
-fn lines(input: &[u8]) {
+// Reads the input until it ends or the buffer is full, and answers how many bytes there are.
+fn read(input: &mut impl Read, buffer: &mut [u8]) -> io::Result<usize> {
+    let most = buffer.len() as u64;
+    let n = io::copy(&mut input.by_ref().take(most), &mut &mut *buffer)?;
+    Ok(n as usize)
+}
+
+fn lines(rt: &impl Print, input: &[u8]) -> io::Result<()> {
     let mut at = 0;
     while at < input.len() {
         let end = text::until(input, at, b'\n');
-        line(&input[at..end]);
+        line(rt, &input[at..end])?;
         at = end + 1;
     }
+    Ok(())
 }
 
 // Prints a line's label, and what its call answers.
-fn line(s: &[u8]) {
+fn line(rt: &impl Print, s: &[u8]) -> io::Result<()> {
     if s.len() == 0 {
-        return;
+        return Ok(());
     }
     if s[0] == b'#' {
-        return;
+        return Ok(());
     }
     let colon = text::until(s, 0, b':');
-    show::print(&s[0..colon]);
-    show::print(b": ");
+    show::print(rt, &s[0..colon])?;
+    show::print(rt, b": ")?;
     let name = text::next_name(s, colon, b':');
     let from = name.from;
     let to = name.to;
-    if !call(&s[from..to], s, to) {
-        show::print(b"UNREADABLE");
+    if !call(rt, &s[from..to], s, to)? {
+        show::print(rt, b"UNREADABLE")?;
     }
-    show::print(b"\n");
+    show::print(rt, b"\n")
 }
 
 // Runs the call of that name on what stands behind it in the line. Answers whether the line can be read.
-fn call(name: &[u8], s: &[u8], at: usize) -> bool {
+fn call(rt: &impl Print, name: &[u8], s: &[u8], at: usize) -> io::Result<bool> {
     match text::place(name, b"read write walk") {
-        0 => models::read(s, at),
-        1 => models::write(s, at),
-        2 => walking::run(s, at),
-        _ => lists::run(name, s, at),
+        0 => models::read(rt, s, at),
+        1 => models::write(rt, s, at),
+        2 => walking::run(rt, s, at),
+        _ => lists::run(rt, name, s, at),
     }
 }

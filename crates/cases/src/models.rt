@@ -7,6 +7,7 @@ use crate::{show, text};
 use bounds::{Bound, Bounds, Kind};
 use codec::Step;
 use model::{Model, Written};
+use std::io;
 
 // What each byte of an area is before a call.
 const BLANK: u8 = 7;
@@ -23,40 +24,38 @@ struct Change {
 }
 
 // Reads bytes, and writes what was read. Answers whether the line can be read.
-pub fn read(s: &[u8], at: usize) -> bool {
+pub fn read(rt: &impl Print, s: &[u8], at: usize) -> io::Result<bool> {
     let mut bytes = [0u8; 1024];
     let r = text::next_bytes(s, at, &mut bytes);
     if r.end != s.len() {
-        return false;
+        return Ok(false);
     }
     let k = r.count;
-    rewrite(&bytes[0..k]);
-    true
+    rewrite(rt, &bytes[0..k])?;
+    Ok(true)
 }
 
-fn rewrite(bytes: &[u8]) {
+fn rewrite(rt: &impl Print, bytes: &[u8]) -> io::Result<()> {
     let r = model::read(bytes);
     let step = r.step;
     if let Step::Refused(e) = step {
-        show::refused(b"REFUSED", e);
-        return;
+        return show::refused(rt, b"REFUSED", e);
     }
     let m = r.model;
     let mut out = [BLANK; 1024];
-    back(model::write(m, &mut out), &out, bytes);
+    back(rt, model::write(m, &mut out), &out, bytes)
 }
 
 // Prints whether a model was written as the same bytes.
-fn back(answer: Written, out: &[u8], bytes: &[u8]) {
+fn back(rt: &impl Print, answer: Written, out: &[u8], bytes: &[u8]) -> io::Result<()> {
     let Written::Bytes(n) = answer else {
-        show::print(b"MODEL, not written");
-        return;
+        return show::print(rt, b"MODEL, not written");
     };
-    show::counted(b"MODEL", n);
+    show::counted(rt, b"MODEL", n)?;
     if starts(out, n, bytes) {
-        show::print(b" bytes, the same");
+        show::print(rt, b" bytes, the same")
     } else {
-        show::print(b" bytes, others");
+        show::print(rt, b" bytes, others")
     }
 }
 
@@ -65,11 +64,11 @@ fn starts(out: &[u8], n: usize, bytes: &[u8]) -> bool {
     if out.len() < n {
         return false;
     }
-    check::same(&out[0..n], bytes)
+    &out[0..n] == bytes
 }
 
 // Reads bytes, changes the model, and writes it. Answers whether the line can be read.
-pub fn write(s: &[u8], at: usize) -> bool {
+pub fn write(rt: &impl Print, s: &[u8], at: usize) -> io::Result<bool> {
     let mut numbers = [0i32; 1];
     let h = text::next_row(s, at, b' ', &mut numbers);
     let mut bytes = [0u8; 1024];
@@ -77,45 +76,51 @@ pub fn write(s: &[u8], at: usize) -> bool {
     let a = next_change(s, r.end);
     let b = next_change(s, a.end);
     if b.end != s.len() {
-        return false;
+        return Ok(false);
     }
     let k = r.count;
-    write_first(&bytes[0..k], a, b, text::size(numbers[0]))
+    write_first(rt, &bytes[0..k], a, b, text::size(numbers[0]))
 }
 
 // Writes the model of the bytes, with two changes, to the first bytes of an area.
-fn write_first(bytes: &[u8], a: Change, b: Change, room: usize) -> bool {
+fn write_first(
+    rt: &impl Print,
+    bytes: &[u8],
+    a: Change,
+    b: Change,
+    room: usize,
+) -> io::Result<bool> {
     if MOST < room {
-        return false;
+        return Ok(false);
     }
     let r = model::read(bytes);
     let m = changed(changed(r.model, a), b);
     let mut area = [BLANK; MOST];
     let w = model::write(m, &mut area[0..room]);
-    written(w, &area);
-    true
+    written(rt, w, &area)?;
+    Ok(true)
 }
 
-fn written(answer: Written, area: &[u8; MOST]) {
+fn written(rt: &impl Print, answer: Written, area: &[u8; MOST]) -> io::Result<()> {
     match answer {
         Written::Bytes(n) => {
-            show::counted(b"BYTES", n);
-            unchanged(area, n);
+            show::counted(rt, b"BYTES", n)?;
+            unchanged(rt, area, n)
         }
         Written::Refused(e) => {
-            show::refused(b"REFUSED", e);
-            unchanged(area, 0);
+            show::refused(rt, b"REFUSED", e)?;
+            unchanged(rt, area, 0)
         }
     }
 }
 
 // Prints whether the area from a place on is as at entry.
-fn unchanged(area: &[u8], from: usize) {
+fn unchanged(rt: &impl Print, area: &[u8], from: usize) -> io::Result<()> {
     let i = text::past(area, from, BLANK);
     if i < area.len() {
-        show::counted(b", changed behind", i);
+        show::counted(rt, b", changed behind", i)
     } else {
-        show::counted(b", unchanged from", from);
+        show::counted(rt, b", unchanged from", from)
     }
 }
 

@@ -2,49 +2,47 @@
 ghost use Rattle.std.specs.Prelude.{◌≤◌, length};
 
 use crate::text;
-use libc::STDOUT_FILENO;
 use numbers::{Refusal, Vector};
-use std::num;
+use std::{io, num};
 
 // What each word of an area is before a call.
 pub const FILL: i32 = 7;
 
-pub fn print(text: &[u8]) {
-    io::write_all(STDOUT_FILENO, text);
+pub fn print(rt: &impl Print, text: &[u8]) -> io::Result<()> {
+    rt.write_all(text)
 }
 
-pub fn number(n: usize) {
-    io::print_decimal(STDOUT_FILENO, n as u64);
+pub fn number(rt: &impl Print, n: usize) -> io::Result<()> {
+    rt.print(n)
 }
 
 // Prints a number behind a blank.
-pub fn count(n: usize) {
-    print(b" ");
-    number(n);
+pub fn count(rt: &impl Print, n: usize) -> io::Result<()> {
+    print(rt, b" ")?;
+    number(rt, n)
 }
 
 // Prints a word, and a number behind a blank.
-pub fn counted(word: &[u8], n: usize) {
-    print(word);
-    count(n);
+pub fn counted(rt: &impl Print, word: &[u8], n: usize) -> io::Result<()> {
+    print(rt, word)?;
+    count(rt, n)
 }
 
 // Prints a word, and the number of a refusal behind a blank.
-pub fn refused(word: &[u8], e: Refusal) {
-    counted(word, e.number());
+pub fn refused(rt: &impl Print, word: &[u8], e: Refusal) -> io::Result<()> {
+    counted(rt, word, e.number())
 }
 
 // Prints a word of an area behind a blank.
-fn word(x: i32) {
+fn word(rt: &impl Print, x: i32) -> io::Result<()> {
     if x == Vector::MARK {
-        print(b" -oo");
-        return;
+        return print(rt, b" -oo");
     }
     if x < 0 {
-        print(b" -");
-        number(text::size(text::negated(x)));
+        print(rt, b" -")?;
+        number(rt, text::size(text::negated(x)))
     } else {
-        count(text::size(x));
+        count(rt, text::size(x))
     }
 }
 
@@ -87,33 +85,31 @@ fn sum(area: &[i32], n: usize) -> u32
 
 // Prints a state area after a walk: as at entry, every word 0, or how many words there are up to the last that is not as
 // at entry, and their sum.
-pub fn states(area: &[i32]) {
+pub fn states(rt: &impl Print, area: &[i32]) -> io::Result<()> {
     let n = extent(area, FILL);
     if n == 0 {
-        print(b", entry");
-        return;
+        return print(rt, b", entry");
     }
     if extent(area, 0) == 0 {
-        print(b", zero");
-        return;
+        return print(rt, b", zero");
     }
-    counted(b", kept", n);
-    count(sum(area, n) as usize);
+    counted(rt, b", kept", n)?;
+    count(rt, sum(area, n) as usize)
 }
 
 // Prints the first n words of a result and whether the area behind them is as at entry.
-pub fn result(area: &[i32], n: usize) {
+pub fn result(rt: &impl Print, area: &[i32], n: usize) -> io::Result<()> {
     let mut i = 0;
     while i < area.len() {
         if i == n {
             break;
         }
-        word(area[i]);
+        word(rt, area[i])?;
         i += 1;
     }
     if extent(area, FILL) <= n {
-        print(b", rest as before");
+        print(rt, b", rest as before")
     } else {
-        print(b", rest changed");
+        print(rt, b", rest changed")
     }
 }

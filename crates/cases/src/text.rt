@@ -100,7 +100,7 @@ pub fn place(name: &[u8], names: &[u8]) -> usize {
     let mut i = 0;
     while at < names.len() {
         let end = until(names, at, b' ');
-        if check::same(name, &names[at..end]) {
+        if name == &names[at..end] {
             break;
         }
         at = end + 1;

@@ -1,9 +1,14 @@
 // The program: one model from standard input, one answer to standard output.
-ghost use Rattle.std.specs.Prelude.{◌≡◌, length};
-ghost use Rattle.console.specs.Reports.{Reports};
+#![tactic(auto)]
+
+ghost use Rattle.std.specs.Prelude.{◌≡◌, ◌≤◌, length, IfOk, IfSome};
+ghost use Rattle.std.specs.Io.{ReadsAtMost};
+ghost use Rattle.std.specs.Io.KnownBytes.{ReadConsumes};
+ghost use Rattle.console.specs.Reports.{Begins, Reported, Reports};
 
 use answer::TEXT;
-use libc::{STDIN_FILENO, STDOUT_FILENO};
+use std::io;
+use std::io::{ErrorKind, Read, Write};
 
 // The most bytes that are read of an input: more than the longest model has.
 pub const INPUT: usize = 65536;
@@ -11,12 +16,8 @@ pub const INPUT: usize = 65536;
 // The words of a state area with room for 64 states over 6 clocks.
 const AREA: usize = 14592;
 
-// The bytes that were read, or that a read failed.
-#[derive(Clone, Copy)]
-enum Input {
-    Bytes(usize),
-    Failed,
-}
+// The bytes of the text of an error: more than the system's or std's longest.
+const REASON: usize = 128;
 
 // Writes the text for the input of which the first n bytes of the buffer are all that it has room for.
 pub fn report(buffer: &[u8; INPUT], n: usize, text: &mut [u8; TEXT]) -> usize
@@ -37,34 +38,76 @@ fn report_first(buffer: &[u8], n: usize, text: &mut [u8; TEXT]) -> usize
     answer::answer(&buffer[..n], &mut area, text)
 }
 
-// Reads standard input until it ends or the buffer is full.
-fn read(buffer: &mut [u8]) -> Input {
+// Reads once, and again as long as a signal comes first.
+fn read_some<R: Read>(input: &mut R, part: &mut [u8]) -> io::Result<usize>
+    ensures bound { ReadsAtMost result part.new }
+    ensures bytes { ReadConsumes (R.remaining input.old) (R.remaining input.new) result part.new }
+{
+    for _ in 0..u64::MAX {
+        let got = input.read(part);
+        let Err(e) = got else {
+            return got;
+        };
+        if e.kind() != ErrorKind::Interrupted {
+            return got;
+        }
+    }
+    input.read(part)
+}
+
+// Reads the input until it ends or the buffer is full, and answers how many bytes there are.
+fn read<R: Read>(input: &mut R, buffer: &mut [u8]) -> io::Result<usize>
+    ensures within { IfOk result (λ n. n ≤ length buffer.new) }
+    ensures begins { IfOk result (λ n. IfSome (R.remaining input.old) (Begins buffer.new n)) }
+{
     let mut at = 0;
     while at < buffer.len() {
-        let got = libc::read(STDIN_FILENO, &mut buffer[at..]);
-        if got < 0 {
-            return Input::Failed;
-        }
-        let more = io::count(got, &buffer[at..]);
+        let more = read_some(input, &mut buffer[at..])?;
         if more == 0 {
-            return Input::Bytes(at);
+            return Ok(at);
         }
         at += more;
     }
-    Input::Bytes(at)
+    Ok(at)
+}
+
+// Writes the text for what the input holds.
+fn respond<R: Read>(input: &mut R, text: &mut [u8; TEXT]) -> io::Result<usize>
+    ensures within { IfOk result (λ r. r ≤ length text.new) }
+    ensures reported { IfOk result (λ r. IfSome (R.remaining input.old) (λ xs. Reported xs text.old r text.new)) }
+{
+    let mut buffer = [0u8; INPUT];
+    let n = read(input, &mut buffer)?;
+    Ok(report(&buffer, n, text))
+}
+
+// The text of an error at the start of zeros, without the number that std puts behind the system's.
+fn reason(text: &str) -> &str {
+    match text.split_once(" (os error ") {
+        Some((front, _)) => front,
+        None => text.trim_end_matches('\0'),
+    }
+}
+
+// Tells on standard error which stream failed, and why.
+fn tell(rt: &impl Eprint, stream: &str, error: io::Error) {
+    let mut bytes = [0u8; REASON];
+    let mut room = &mut bytes[..];
+    let _ = write!(room, "{error}");
+    let why = reason(str::from_utf8(&bytes).unwrap_or(""));
+    let _ = eprintln!(rt; "scionwheel: {stream}: {why}");
 }
 
 // Prints the text for standard input; what cannot be read or written is told on standard error.
-pub fn run() {
-    let mut buffer = [0u8; INPUT];
-    let input = read(&mut buffer);
-    let Input::Bytes(n) = input else {
-        os::fail(b"scionwheel: standard input");
-        return;
-    };
+pub fn run(rt: &(impl Input + Print + Eprint)) {
     let mut text = [0u8; TEXT];
-    let length = report(&buffer, n, &mut text);
-    if !io::write_all(STDOUT_FILENO, &text[..length]) {
-        os::fail(b"scionwheel: standard output");
+    let mut input = rt.reader();
+    match respond(&mut input, &mut text) {
+        Err(e) => tell(rt, "standard input", e),
+        Ok(length) => {
+            if let Err(e) = rt.write_all(&text[..length]) {
+                tell(rt, "standard output", e);
+            }
+        }
     }
 }

@@ -1,4 +1,6 @@
 // Prints the answer of the model on standard input.
-fn main() {
-    console::run();
+#![tactic(auto)]
+
+fn main(rt: HostRuntime) {
+    console::run(&rt);
 }

@@ -1,4 +1,4 @@
-use Rattle.std.proofs.Common.{◌+◌, ◌≤◌, mul-le-mul_right, arith, rules}
+use Rattle.std.proofs.Common.{◌+◌, ◌≤◌, mul-le-mul_right, arith}
 use Rattle.cases.proofs.lists.words.Goals as goal
 
 pub overflow_mul-result : goal.overflow_mul-result

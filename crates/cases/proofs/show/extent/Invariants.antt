@@ -1,4 +1,4 @@
-use Rattle.std.proofs.Common.{◌≤◌, length, rules}
+use Rattle.std.proofs.Common.{◌≤◌, length}
 use Rattle.cases.proofs.show.extent.Given as goal
 
 abbrev pub invariant-loop-n : goal.invariant-loop-n

@@ -1,4 +1,4 @@
-use Rattle.std.proofs.Common.{◌-◌, length, mul-le-mul_right, arith, rules}
+use Rattle.std.proofs.Common.{mul-le-mul_right, arith}
 use Rattle.cases.proofs.text.digits.Goals as goal
 
 pub overflow_mul-value : goal.overflow_mul-value

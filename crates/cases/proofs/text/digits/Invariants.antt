@@ -1,8 +1,5 @@
-use Rattle.std.proofs.Common.{◌-◌, length, mul-le-mul_right, arith, rules}
+use Rattle.std.proofs.Common.{◌-◌, length}
 use Rattle.cases.proofs.text.digits.Given as goal
-
-abbrev pub invariant-loop-i : goal.invariant-loop-i
-invariant-loop-i l = Unit {0}
 
 abbrev pub decreases-loop-i : goal.decreases-loop-i
 decreases-loop-i l = length l.s - l.i

@@ -1,4 +1,4 @@
-use Rattle.std.proofs.Common.{◌<◌, T, ℤ, pos, negsuc, nat_abs, arith, w32, Fits, rules}
+use Rattle.std.proofs.Common.{◌<◌, T, ℤ, pos, negsuc, nat_abs, arith, w32, Fits}
 use lib.Signed.{mag, non_neg}
 use Rattle.numbers.proofs.WordLaws.{back, not_below}
 use Rattle.cases.proofs.text.natural.Goals as goal

@@ -1,4 +1,4 @@
-use Rattle.std.proofs.Common.{zero, suc, ◌<◌, ℤ, pos, negsuc, ◌-ℤ◌, ap, arith, w32, SFits, rules}
+use Rattle.std.proofs.Common.{zero, suc, ◌<◌, ℤ, pos, negsuc, ◌-ℤ◌, ap, arith, w32, SFits}
 use lib.IntN.{+ℤ_idl}
 use lib.Signed.{mag}
 use Rattle.numbers.specs.Integers.{lo}

@@ -1,4 +1,4 @@
-use Rattle.std.proofs.Common.{◌≡◌, ◌-◌, ◌≤◌, length, rules}
+use Rattle.std.proofs.Common.{◌≡◌, ◌-◌, ◌≤◌, length}
 use Rattle.cases.proofs.text.next_bytes.Given as goal
 
 abbrev pub invariant-loop-count : goal.invariant-loop-count
