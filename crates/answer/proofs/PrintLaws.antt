@@ -1,6 +1,5 @@
 -- The contracts of printing: of a model that is walked, and of bytes.
 use mathlib.Core.List.{List, [], ◌++◌, append-nil}
-use mathlib.Core.Logic.{◌⊎◌, inl, inr}
 use mathlib.Core.Path.{◌≡◌, refl, sym, ap, ◌∙◌, subst}
 use Prim.Native.Nat.{ℕ, ◌-◌, ◌≤◌}
 use native.Mathlib.Omega.{arith}
@@ -19,7 +18,6 @@ use Rattle.codec.proofs.WriteLaws.{put_start, wrote_then, room_first, room_next}
 use Rattle.runs.specs.Verdicts.{Answer, reached, refused, answer_by}
 use Rattle.runs.specs.declared.Verdict.{Verdict}
 use Rattle.runs.specs.declared.Verdict.TheVariants.{Reached, Never, Open, Refused}
-use Rattle.runs.specs.contracts.Verdict.{the_type as the-verdict}
 use Rattle.model.specs.declared.Model.{Model}
 use Rattle.model.specs.declared.Outline.{Outline}
 use Rattle.model.specs.Answers.{Said, value, read_of}

@@ -1,16 +1,14 @@
 -- The text for an input: with 14,592 words there is room for 64 states over any number of clocks, and the text is the
 -- rule's in that room.
-use mathlib.Core.List.{List, [], ◌++◌}
-use mathlib.Core.Path.{◌≡◌, refl, sym, ap, ◌∙◌, subst}
-use Prim.Native.Nat.{ℕ, ◌*◌, ◌≤◌}
+use mathlib.Core.List.{List}
+use mathlib.Core.Path.{◌≡◌, refl, sym, ap, ◌∙◌}
+use Prim.Native.Nat.{ℕ, ◌≤◌}
 use native.Mathlib.Nat.{le-div_iff_mul-le}
 use native.Mathlib.Omega.{arith}
 use lib.IntN.{ℤ}
-use lib.ListN.{length, take, drop}
+use lib.ListN.{length, take}
 use Rattle.codec.specs.Arrays.{AreBytes}
-use Rattle.runs.specs.Models.{System}
 use Rattle.runs.specs.Rule.{Ending, ends_reached, ends_never, ends_open, ends_refused, walk_of, answer_of, kept_by, last_path}
-use Rattle.runs.specs.Verdicts.{Answer}
 use Rattle.model.specs.declared.Model.{Model}
 use Rattle.model.specs.Answers.{Said, value, refusal, read_of}
 use Rattle.model.specs.Limits.{ModelLimits}
@@ -18,10 +16,10 @@ use Rattle.model.specs.Plain.{plain}
 use Rattle.model.proofs.Theorems.{read_written_lem, first_many}
 use Rattle.area.specs.Area.{record_size, room_of, area_after}
 use Rattle.area.proofs.RecordLaws.{size_is, room_many, room_some}
-use Rattle.walk.specs.Walks.{Walked, ending_of, walked_of, kept_said, path_in}
+use Rattle.walk.specs.Walks.{ending_of, walked_of, kept_said, path_in}
 use Rattle.walk.proofs.Theorems.{big_walk}
 use Rattle.walk.proofs.WalkLaws.{ending_path}
-use Rattle.printing.specs.Text.{Stop, text_of}
+use Rattle.printing.specs.Text.{text_of}
 use Rattle.answer.specs.Printed.{stops_of, text_for, text_over, report_for, report_of}
 
 -- 14,592 words have room for 64 states, whatever the number of clocks

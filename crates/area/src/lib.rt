@@ -1,5 +1,6 @@
 // The state area: records of the kept states, written and read back.
 #![tactic(auto)]
+
 ghost use Rattle.std.specs.Prelude.{◌≡◌, ◌+◌, ◌≤◌, pos, length, replicate};
 ghost use Rattle.runs.specs.Rule.{is_yes, covered as coveredBy};
 ghost use Rattle.area.specs.Area.{record_size, room_of};

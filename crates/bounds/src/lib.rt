@@ -1,5 +1,6 @@
 // Bounds and lists of bounds.
 #![tactic(auto)]
+
 ghost use Rattle.std.specs.Prelude.{◌≡◌};
 ghost use Rattle.bounds.specs.Bounds.{no_bound, no_bounds};
 

@@ -1,5 +1,6 @@
 // The model's numbers as bytes, read and written.
 #![tactic(auto)]
+
 ghost use Rattle.std.specs.Prelude.{◌≡◌, ◌<◌, ◌≤◌, nat_abs, drop};
 ghost use Rattle.codec.specs.Number.{number_in, bytes_of, folded, unfolded};
 ghost use Rattle.codec.specs.Form.{done, ask, read_in};

@@ -22,7 +22,7 @@ use Rattle.codec.specs.declared.Step.{Step}
 use Rattle.codec.specs.declared.Step.TheVariants.{At, Refused as Stopped}
 use Rattle.codec.specs.contracts.Step.{the_type}
 use Rattle.model.specs.declared.Model.{Model}
-use Rattle.model.specs.Answers.{Said, value, refusal, read_of, reading_said, ReadsModel, Stands}
+use Rattle.model.specs.Answers.{Said, value, read_of, reading_said, ReadsModel, Stands}
 use Rattle.model.specs.Answers.{WritesModel, outside, short, wrote}
 use Rattle.model.proofs.Theorems.{size}
 use Rattle.answer.specs.Printed.{Answered, printed_of, Prints}

@@ -1,5 +1,6 @@
 // The calls for C and Rust: over slices and plain numbers, each answer one number.
 #![tactic(auto)]
+
 ghost use Rattle.std.specs.Prelude.{◌≡◌, pos, ◌≤◌};
 ghost use Rattle.numbers.specs.Integers.{hi};
 ghost use Rattle.numbers.specs.Refusals.{refusal_number};

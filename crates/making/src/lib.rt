@@ -1,5 +1,6 @@
 // The four calls that make a set: intersect, delay, reset, hull.
 #![tactic(auto)]
+
 ghost use Rattle.making.specs.Calls.{Intersects, Delays, Resets, Hulls};
 
 use build::Change;

@@ -2,7 +2,7 @@
 use Rattle.std.specs.Prelude.{List, ◌++◌, ◌≡◌, ℕ, ◌≤◌, ◌<◌, length, drop}
 use Rattle.numbers.specs.Refusals.{refusal_number}
 use Rattle.numbers.specs.declared.Refusal.{Refusal}
-use Rattle.numbers.specs.declared.Refusal.TheVariants.{Shape, Bytes, Model as Field}
+use Rattle.numbers.specs.declared.Refusal.TheVariants.{Shape, Model as Field}
 use Rattle.codec.specs.declared.Step.{Step}
 use Rattle.codec.specs.declared.Step.TheVariants.{At, Refused as Stopped}
 use Rattle.codec.specs.Form.{read_in}

@@ -1,5 +1,6 @@
 // A model: its record, read from bytes and written as bytes.
 #![tactic(auto)]
+
 ghost use Rattle.std.specs.Prelude.{◌≡◌, ◌≤◌, ◌^◌};
 ghost use Rattle.model.specs.Models.{no_edge};
 ghost use Rattle.model.specs.Answers.{ReadsModel, WritesModel, written_said};

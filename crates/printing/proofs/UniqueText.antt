@@ -1,8 +1,8 @@
 -- A text is read in one way only: equal texts have equal answers and equal stops.
-use mathlib.Core.Bool.{Bool, true, cond}
+use mathlib.Core.Bool.{cond}
 use mathlib.Core.List.{List, [], ◌∷◌, ◌++◌, append_assoc}
-use mathlib.Core.Path.{◌≡◌, refl, sym, ap, ◌∙◌, subst}
-use Prim.Native.Nat.{ℕ, zero, suc, ◌+◌, ◌-◌, ◌*◌, ◌/◌, ◌%◌, ◌≤◌, ◌<◌}
+use mathlib.Core.Path.{◌≡◌, refl, sym, ap, ◌∙◌}
+use Prim.Native.Nat.{ℕ, zero, suc, ◌+◌, ◌-◌, ◌*◌, ◌/◌, ◌%◌, ◌<◌}
 use native.Mathlib.Decide.{dec_lt}
 use native.Mathlib.Omega.{arith}
 use lib.Dec.{ltb}
@@ -10,7 +10,7 @@ use lib.ListN.{length, length-append}
 use borrow.Author.Tests.{lt-ltb, le-ltb}
 use Rattle.codec.specs.Arrays.{each}
 use Rattle.runs.specs.Verdicts.{Answer, reached, never, open_to, refused}
-use Rattle.printing.specs.Text.{digit, digits, decimal, spaced, newline, counts, head_of, Stop, line_of, lines_of, text_of}
+use Rattle.printing.specs.Text.{digit, digits, decimal, spaced, counts, Stop, line_of, text_of}
 use Rattle.printing.proofs.NumberText.{last_digit, next_digit}
 
 -- ---- numbers

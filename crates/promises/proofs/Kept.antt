@@ -1,8 +1,7 @@
 -- Every promise is kept.
-use mathlib.Core.List.{List, [], ◌∷◌, ◌++◌, map}
-use mathlib.Core.Logic.{◌↔◌}
+use mathlib.Core.List.{List}
 use mathlib.Core.Path.{◌≡◌, refl, sym, ap, ◌∙◌, subst}
-use Prim.Native.Nat.{ℕ, suc, ◌*◌, ◌≤◌, ◌<◌}
+use Prim.Native.Nat.{ℕ, suc, ◌*◌, ◌≤◌}
 use native.Mathlib.Omega.{arith}
 use lib.IntN.{ℤ, pos}
 use lib.ListN.{length, take, drop, replicate, length-replicate, length-map}
@@ -16,31 +15,27 @@ use Rattle.sets.proofs.Asking.{contains_settled, included_settled}
 use Rattle.making.specs.declared.Made.TheVariants.{Vectors}
 use Rattle.making.specs.Answers.{Makes}
 use Rattle.making.proofs.Settled.{makes_settled}
-use Rattle.codec.specs.Arrays.{AreBytes}
 use Rattle.runs.specs.Models.{System}
-use Rattle.runs.specs.Runs.{Reaches, ReachesWith}
-use Rattle.runs.specs.Verdicts.{reached, open_to, answer_by, SaysNever, SaysOpen}
+use Rattle.runs.specs.Verdicts.{SaysNever}
 use Rattle.runs.specs.declared.Verdict.{Verdict}
 use Rattle.runs.specs.declared.Verdict.TheVariants.{Reached, Never, Open, Refused}
 use Rattle.runs.proofs.Covering.{closed_never}
 use Rattle.runs.proofs.ProperLists.{words_long}
 use Rattle.model.specs.declared.Model.{Model}
-use Rattle.model.specs.Answers.{Said, value, refusal, read_of, WritesModel, outside, short, wrote}
+use Rattle.model.specs.Answers.{value, read_of, WritesModel, outside, short, wrote}
 use Rattle.model.specs.Limits.{ModelLimits}
 use Rattle.model.specs.Written.{model_bytes}
 use Rattle.model.proofs.Theorems.{read_written_lem, written_read_lem, size, first_many, read_settled, write_settled}
 use Rattle.walk.specs.Walks.{walked_of, Walks}
 use Rattle.walk.proofs.Theorems as walks
-use Rattle.printing.specs.Text.{Stop, text_of}
-use Rattle.answer.specs.Says.{OfModel, SaysLines, Says}
+use Rattle.answer.specs.Says.{OfModel, Says}
 use Rattle.answer.specs.Printed.{Answered, text_for, text_over, report_of, printed_of, Prints}
 use Rattle.answer.proofs.Saying.{says_alike}
 use Rattle.answer.proofs.Theorems.{answer_settled, answer_first}
 use Rattle.answer.proofs.Reported.{room_full}
-use Rattle.console.specs.Reports.{Begins, Reported, Reports}
 use Rattle.console.proofs.ReportLaws.{report_settled}
 use Rattle.promises.specs.Promises.{Promises, EqualSets, ReadWritten, WrittenRead, AnswerMeans, ProgramMeans, ProgramRoom}
-use Rattle.promises.specs.Promises.{NoRun, RunAlong, NoneWithin, TextMeans, Certain, Stable, Counted, ClosedMeans}
+use Rattle.promises.specs.Promises.{NoRun, TextMeans, Certain, Stable, Counted, ClosedMeans}
 
 -- ---- sets
 equal_sets_lem : EqualSets

@@ -23,7 +23,7 @@ use Rattle.area.specs.Records.{state_in}
 use Rattle.walk.specs.Walks.{path_in, kept_said, with_depth, Walks}
 use Rattle.printing.specs.Text.{Stop, never_word, text_of}
 use Rattle.answer.specs.Says.{OfModel}
-use Rattle.answer.specs.Printed.{report_of, Prints}
+use Rattle.answer.specs.Printed.{Prints}
 use Rattle.console.specs.Reports.{Begins, Reports}
 
 -- ---- 1. what a contract allows is one answer, with one content of the lent memory

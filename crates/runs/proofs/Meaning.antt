@@ -13,7 +13,7 @@ use Rattle.numbers.proofs.Tells.{tells_eqb, clash}
 use Rattle.runs.specs.Models.{System, Model, invariant, edge}
 use Rattle.runs.specs.ModelLimits.{SystemLimits, ModelLimits}
 use Rattle.runs.specs.Runs.{Values, zeroed, Fits, Run, start, follow, ReachesWith}
-use Rattle.runs.specs.Verdicts.{SaysReached, SaysNever, SaysOpen, Means}
+use Rattle.runs.specs.Verdicts.{SaysReached, SaysOpen, Means}
 use Rattle.runs.specs.Closure.{numbers, Has, Entered, Crossed, AtZero, Among, Closed}
 use Rattle.runs.specs.Rule.{Step, made, stop, is_empty, included, cut_all, enter, candidate, State, state_at}
 use Rattle.runs.specs.Rule.{covered}

@@ -11,7 +11,6 @@ use lib.IntN.{ℤ, pos, negsuc}
 use lib.ListN.{length}
 use Rattle.numbers.specs.Numbers.{Num, −∞, fin, at_most, Within, nought, million, minus_million}
 use Rattle.numbers.specs.Places.{entries, Each}
-use Rattle.numbers.specs.Tests.{some}
 use Rattle.numbers.proofs.Tells.{Tells, always, never, means, both, tells_every, tells_some, tells_leb, tells_eqb}
 use Rattle.numbers.proofs.NumberLaws.{≼_trans, tells_at_most, fin_low, fin_inj}
 use Rattle.numbers.proofs.IntegerLaws.{hi_le, lo_le}

@@ -1,5 +1,6 @@
 // The two questions asked of a set: is a point in it, and is it included in another.
 #![tactic(auto)]
+
 ghost use Rattle.sets.specs.Calls.{Contains, IsIncluded};
 
 use numbers::{Refusal, Vector};

@@ -1,5 +1,6 @@
 // The walk's steps on lists of words: bounds as half-spaces, entering a location, a candidate, the target test.
 #![tactic(auto)]
+
 ghost use Rattle.std.specs.Prelude.{◌≡◌};
 ghost use Rattle.bounds.specs.Limits.{BoundsLimits};
 ghost use Rattle.model.specs.Plain.{bounds_of, edge_of};

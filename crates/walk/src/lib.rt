@@ -1,5 +1,6 @@
 // The walk: layer after layer over the state area, from a model's bytes to the verdict.
 #![tactic(auto)]
+
 ghost use Rattle.model.specs.Outlines.{model_by, Outlines};
 ghost use Rattle.walk.specs.Walks.{WalksModel, Walks};
 

@@ -6,7 +6,7 @@ use lib.ListN.{get_or}
 use mir.Syntax.{w32}
 use mir.Val.{to_z, of_z}
 use Rattle.walk.specs.Walks.{word_at}
-use Rattle.answer.proofs.LineLaws.{words_inside, word_read, lines_none, parent_earlier, parent_fits, edge_fits_lem}
+use Rattle.answer.proofs.LineLaws.{words_inside, word_read, lines_none, parent_earlier, edge_fits_lem}
 use Rattle.answer.proofs.LineLaws.{location_fits, parent_printable, line_room, lines_more}
 use Rattle.answer.proofs.+lines.Goals as goal
 

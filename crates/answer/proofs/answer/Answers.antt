@@ -1,6 +1,5 @@
 use Rattle.walk.proofs.WalkLaws.{outline_value}
 use Rattle.answer.proofs.PrintLaws.{refused_fits, prints_unread, prints_read}
-use borrow.Author.Rules.{rules}
 use native.Mathlib.Omega.{arith}
 use mathlib.Core.Path.{◌≡◌}
 use Prim.Native.Nat.{ℕ, ◌≤◌, ◌<◌}

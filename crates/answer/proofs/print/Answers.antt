@@ -1,5 +1,4 @@
 use Rattle.answer.proofs.PrintLaws.{head_fits, prints_head, some_kept, lines_printable, prints_lines}
-use borrow.Author.Rules.{rules}
 use Rattle.model.specs.Outlines.{model_by}
 use Rattle.answer.proofs.print.Goals as goal
 

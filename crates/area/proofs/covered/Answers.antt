@@ -1,8 +1,6 @@
 use native.Mathlib.Omega.{arith}
 use mathlib.Core.Path.{◌≡◌, sym, subst}
-use Prim.Native.Nat.{◌-◌, ◌≤◌}
 use Rattle.area.proofs.CoverLaws.{None, none_start, none_next, some_next}
-use borrow.Author.Rules.{rules}
 use Rattle.area.proofs.covered.Goals as goal
 
 pub loop-i-init : goal.loop-i-init
@@ -17,11 +15,10 @@ returns-then-covers c =
     c.covers.ensures c.if-covers.true
 
 pub loop-i-preserved : goal.loop-i-preserved
-loop-i-preserved c =
-    (
-      omega arith,
-      none_next _ _ _ _ c.loop-i.i _ c.loop-i.invariant.1 c.covers.ensures c.if-covers.false,
-    )
+loop-i-preserved c = (
+  omega arith,
+  none_next _ _ _ _ c.loop-i.i _ c.loop-i.invariant.1 c.covers.ensures c.if-covers.false,
+)
 
 pub returns : goal.returns
 returns c =

@@ -1,8 +1,5 @@
-use native.Mathlib.Omega.{arith}
-use mathlib.Core.Path.{◌≡◌, sym, subst}
 use Prim.Native.Nat.{◌-◌, ◌≤◌}
-use Rattle.area.proofs.CoverLaws.{None, none_start, none_next, some_next}
-use borrow.Author.Rules.{rules}
+use Rattle.area.proofs.CoverLaws.{None}
 use Rattle.area.proofs.covered.Given as goal
 
 abbrev pub invariant-loop-i : goal.invariant-loop-i

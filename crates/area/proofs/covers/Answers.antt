@@ -1,4 +1,3 @@
-use borrow.Author.Rules.{rules}
 use mathlib.Core.Path.{◌∙◌}
 use Rattle.area.proofs.CoverLaws.{covers_asks, covers_not}
 use Rattle.area.specs.Records.{state_in}

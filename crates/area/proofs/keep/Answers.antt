@@ -1,10 +1,8 @@
-use borrow.Author.Rules.{rules}
 use native.Mathlib.Omega.{arith}
-use mathlib.Core.Path.{◌≡◌, ap, ◌∙◌}
-use Prim.Native.Nat.{ℕ, ◌+◌, ◌*◌, ◌/◌, ◌≤◌}
+use mathlib.Core.Path.{ap, ◌∙◌}
+use Prim.Native.Nat.{ℕ, ◌/◌}
 use native.Mathlib.Numerals.{add-one}
 use lib.ListN.{length}
-use Rattle.algebra.specs.Vectors.{count}
 use Rattle.numbers.proofs.WordLaws.{word_is}
 use Rattle.area.proofs.KeepLaws.{row_room, part_room, keep_law}
 use mir.Facts.{to_z-of_z}

@@ -1,13 +1,6 @@
-use borrow.Author.Rules.{rules}
 use native.Mathlib.Omega.{arith}
-use mathlib.Core.Path.{◌≡◌, ap}
-use Prim.Native.Nat.{suc, ◌+◌, ◌*◌, ◌≤◌}
-use lib.IntN.{pos, nat_abs}
-use lib.ListN.{length, get_or}
-use mir.Syntax.{w32}
-use mir.Val.{to_z, of_z}
-use Rattle.algebra.specs.Vectors.{count}
-use Rattle.area.specs.Records.{state_in}
+use mathlib.Core.Path.{ap}
+use lib.IntN.{nat_abs}
 use Rattle.area.proofs.RecordLaws.{read_room, location_read, location_small, count_read, few_read, places}
 use Rattle.area.proofs.locate.Goals as goal
 

@@ -1,4 +1,3 @@
-use borrow.Author.Rules.{rules}
 use native.Mathlib.Omega.{arith}
 use Rattle.area.proofs.RecordLaws.{size_is, room_few, room_many}
 use Rattle.area.proofs.room.Goals as goal

@@ -1,4 +1,3 @@
-use borrow.Author.Rules.{rules}
 use Rattle.area.proofs.RecordLaws.{size_plus}
 use Rattle.area.proofs.size.Goals as goal
 

@@ -1,10 +1,7 @@
 use native.Mathlib.Omega.{arith}
-use mathlib.Core.Path.{◌≡◌, refl}
-use Prim.Native.Nat.{◌-◌, ◌≤◌}
-use lib.IntN.{pos}
-use lib.ListN.{length, take, replicate, length-set}
+use mathlib.Core.Path.{refl}
+use lib.ListN.{length-set}
 use Rattle.area.proofs.KeepLaws.{zero_next, zero_done}
-use borrow.Author.Rules.{rules}
 use Rattle.area.proofs.zero.Goals as goal
 
 pub loop-j-init : goal.loop-j-init

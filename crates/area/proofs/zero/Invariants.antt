@@ -1,10 +1,7 @@
-use native.Mathlib.Omega.{arith}
-use mathlib.Core.Path.{◌≡◌, refl}
+use mathlib.Core.Path.{◌≡◌}
 use Prim.Native.Nat.{◌-◌, ◌≤◌}
 use lib.IntN.{pos}
-use lib.ListN.{length, take, replicate, length-set}
-use Rattle.area.proofs.KeepLaws.{zero_next, zero_done}
-use borrow.Author.Rules.{rules}
+use lib.ListN.{length, take, replicate}
 use Rattle.area.proofs.zero.Given as goal
 
 abbrev pub invariant-loop-j : goal.invariant-loop-j

@@ -2,7 +2,6 @@ use Prim.Native.Nat.{ℕ, ◌+◌, ◌<◌}
 use lib.ListN.{get_or}
 use native.Mathlib.Omega.{arith}
 use Rattle.codec.proofs.Cases.{cut0, one, cut1, zero1, two, cut2, zero2, four, three}
-use borrow.Author.Rules.{rules}
 use Rattle.codec.proofs.read_number.Goals as goal
 
 pub returns-then-s-at : goal.returns-then-s-at

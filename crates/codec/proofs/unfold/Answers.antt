@@ -5,7 +5,6 @@ use mir.Facts.{to_z-of_z}
 use borrow.Author.Tests.{eq-eqb, ne_eqb}
 use Rattle.numbers.proofs.WordLaws.{word_is}
 use Rattle.codec.proofs.FoldLaws.{neg_fits, half_neg, minus_one, negsuc_fits}
-use borrow.Author.Rules.{rules}
 use native.Mathlib.Omega.{arith}
 use Rattle.codec.proofs.unfold.Goals as goal
 

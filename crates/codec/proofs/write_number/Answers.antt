@@ -3,7 +3,6 @@ use native.Mathlib.Nat.{add_assoc}
 use lib.ListN.{length, length-set}
 use Rattle.codec.specs.Number.{put}
 use Rattle.codec.proofs.NumberBytes.{small, middle, large, some}
-use borrow.Author.Rules.{rules}
 use native.Mathlib.Omega.{arith}
 use Rattle.codec.proofs.write_number.Goals as goal
 

@@ -5,7 +5,6 @@ use lib.Seq.{length-take-le, take_all}
 use Rattle.codec.specs.Arrays.{AreBytes}
 use Rattle.codec.proofs.PackedLaws.{all_of}
 use Rattle.console.proofs.ReportLaws.{reports}
-use borrow.Author.Rules.{rules}
 use Rattle.console.proofs.report_first.Goals as goal
 
 pub returns-then-buffer-n : goal.returns-then-buffer-n

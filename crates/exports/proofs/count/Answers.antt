@@ -1,4 +1,3 @@
-use borrow.Author.Rules.{rules}
 use Rattle.exports.proofs.NumberLaws.{count_is}
 use Rattle.exports.proofs.count.Goals as goal
 

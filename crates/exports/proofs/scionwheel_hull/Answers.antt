@@ -1,4 +1,3 @@
-use borrow.Author.Rules.{rules}
 use Rattle.exports.proofs.CallLaws.{made_fits}
 use Rattle.exports.proofs.NumberLaws.{handed}
 use Rattle.exports.proofs.scionwheel_hull.Goals as goal

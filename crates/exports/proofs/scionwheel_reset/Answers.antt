@@ -1,4 +1,3 @@
-use borrow.Author.Rules.{rules}
 use mir.Facts.{to_z-of_z}
 use Rattle.exports.proofs.CallLaws.{made_fits, resets_same}
 use Rattle.exports.proofs.NumberLaws.{handed}

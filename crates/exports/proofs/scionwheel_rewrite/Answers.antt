@@ -1,4 +1,3 @@
-use borrow.Author.Rules.{rules}
 use Rattle.exports.proofs.CallLaws.{written_fits, read_value, rewrites_unread, rewrites_read}
 use Rattle.exports.proofs.NumberLaws.{handed}
 use Rattle.exports.proofs.scionwheel_rewrite.Goals as goal

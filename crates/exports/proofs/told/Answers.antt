@@ -1,4 +1,3 @@
-use borrow.Author.Rules.{rules}
 use mathlib.Core.Path.{refl}
 use Rattle.exports.proofs.NumberLaws.{handed}
 use Rattle.exports.proofs.told.Goals as goal

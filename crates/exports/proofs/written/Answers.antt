@@ -1,4 +1,3 @@
-use borrow.Author.Rules.{rules}
 use Rattle.exports.proofs.NumberLaws.{handed}
 use Rattle.exports.proofs.written.Goals as goal
 

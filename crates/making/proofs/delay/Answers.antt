@@ -5,7 +5,6 @@ use lib.IntN.{pos}
 use lib.ListN.{length, replicate, length-replicate}
 use Rattle.algebra.specs.Vectors.{vectors}
 use Rattle.algebra.specs.Working.{delay_list}
-use Rattle.sets.specs.Demands.{Good}
 use Rattle.sets.proofs.TestLaws.{list_each}
 use Rattle.making.specs.declared.build.Change.TheVariants.{Stay, Ray}
 use Rattle.making.specs.Calls.{delay_input}
@@ -14,7 +13,6 @@ use Rattle.making.proofs.Rules.{delay_found}
 use Rattle.making.proofs.WorkingLists.{delay_few}
 use Rattle.making.proofs.CallLaws.{zeros_near, growable, count_words, few_vectors_lem, stay_grown, each_grown}
 use Rattle.making.proofs.CallLaws.{grown_append, finishable, passed, delay_ends}
-use borrow.Author.Rules.{rules}
 use Rattle.making.proofs.delay.Goals as goal
 
 pub returns-in_default : goal.returns-in_default

@@ -3,16 +3,12 @@ use native.Mathlib.Omega.{arith}
 use lib.IntN.{pos}
 use lib.ListN.{replicate, length-replicate}
 use Rattle.algebra.specs.Vectors.{vectors}
-use Rattle.algebra.specs.Working.{hull_list}
-use Rattle.sets.specs.Demands.{Good}
 use Rattle.sets.proofs.TestLaws.{list_each}
 use Rattle.making.specs.declared.build.Change.TheVariants.{Stay}
 use Rattle.making.specs.Calls.{hull_input}
-use Rattle.making.specs.Work.{Grown}
 use Rattle.making.proofs.Rules.{hull_found}
 use Rattle.making.proofs.WorkingLists.{with_few, hull_few}
 use Rattle.making.proofs.CallLaws.{zeros_near, growable, few_vectors_lem, hull_grown, finishable, passed, hull_ends}
-use borrow.Author.Rules.{rules}
 use Rattle.making.proofs.hull.Goals as goal
 
 pub returns-in_default : goal.returns-in_default

@@ -3,13 +3,11 @@ use lib.IntN.{pos}
 use lib.ListN.{length-replicate, replicate}
 use Rattle.algebra.specs.Vectors.{vectors}
 use Rattle.algebra.specs.Wanted.{left, right}
-use Rattle.sets.specs.Demands.{Good}
 use Rattle.sets.proofs.TestLaws.{list_each}
 use Rattle.making.specs.Calls.{intersect_input}
 use Rattle.making.proofs.Rules.{intersect_found}
 use Rattle.making.proofs.WorkingLists.{intersect_few}
 use Rattle.making.proofs.CallLaws.{zeros_near, few_vectors_lem, half_each, finishable, passed, intersect_ends}
-use borrow.Author.Rules.{rules}
 use Rattle.making.proofs.intersect.Goals as goal
 
 pub returns-in_default : goal.returns-in_default

@@ -18,7 +18,6 @@ use Rattle.making.specs.Work.{Grown}
 use Rattle.making.proofs.Rules.{reset_found}
 use Rattle.making.proofs.WorkingLists.{reset_few}
 use Rattle.making.proofs.CallLaws.{zeros_near, growable, few_vectors_lem, each_grown, finishable, passed, reset_ends}
-use borrow.Author.Rules.{rules}
 use Rattle.making.proofs.reset.Goals as goal
 
 pub returns-in_default : goal.returns-in_default

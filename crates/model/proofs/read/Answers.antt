@@ -7,7 +7,6 @@ use Rattle.codec.proofs.PackedLaws.{all_of}
 use Rattle.model.specs.Models.{model_form}
 use Rattle.model.proofs.ModelSize.{found_head}
 use Rattle.model.proofs.ReadLaws.{first_fault, bytes_over, whole_model, read_refuses, read_gives}
-use borrow.Author.Rules.{rules}
 use Rattle.model.proofs.read.Goals as goal
 
 pub returns-in_default : goal.returns-in_default

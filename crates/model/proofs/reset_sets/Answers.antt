@@ -1,5 +1,4 @@
 use Rattle.model.proofs.HeadLaws.{sets}
-use borrow.Author.Rules.{rules}
 use Rattle.model.proofs.reset_sets.Goals as goal
 
 pub returns : goal.returns

@@ -6,10 +6,8 @@ use lib.ListN.{length, drop}
 use mathlib.Core.List.{List, ◌++◌}
 use borrow.Author.Tests.{not-true, not-false}
 use Rattle.codec.specs.Answers.{Room}
-use Rattle.model.specs.Limits.{ModelLimits}
 use Rattle.model.specs.Written.{model_bytes}
 use Rattle.model.specs.Answers.{value, outside, short, wrote}
-use borrow.Author.Rules.{rules}
 use Rattle.model.proofs.write.Goals as goal
 
 pub returns-then-not-fits : goal.returns-then-not-fits
@@ -46,8 +44,12 @@ slice_bounds-copy-end c =
 
 pub copy-requires : goal.copy-requires
 copy-requires c =
-    omega (arith, c.if-out-end.false, taken _ (free_room _ (c.model_fits-fits.ensures.yes (not-false _ c.if-not-fits.false-raw)))
-    c.write_model-end-2.ensures)
+    omega (
+      arith,
+      c.if-out-end.false,
+      taken _ (free_room _ (c.model_fits-fits.ensures.yes (not-false _ c.if-not-fits.false-raw)))
+          c.write_model-end-2.ensures,
+    )
 
 pub returns : goal.returns
 returns c =

@@ -1,7 +1,6 @@
-use Prim.Native.Nat.{◌-◌}
 use native.Mathlib.Omega.{arith}
 use lib.IntN.{pos}
-use lib.ListN.{length, get_or}
+use lib.ListN.{get_or}
 use mir.Syntax.{w32}
 use mir.Val.{SFits, to_z, of_z}
 use mir.Facts.{to_z-of_z}
@@ -9,7 +8,7 @@ use Rattle.numbers.specs.Numbers.{Within}
 use Rattle.numbers.specs.Words.{number}
 use Rattle.numbers.specs.Places.{entries}
 use Rattle.numbers.proofs.WordLaws.{is_low}
-use Rattle.numbers.proofs.PlaceLaws.{Filling, filling_start, filling_same, filling_next, lifting}
+use Rattle.numbers.proofs.PlaceLaws.{filling_start, filling_same, filling_next}
 use Rattle.numbers.proofs.PlaceLaws.{lifting_none, lifting_done}
 use borrow.Author.Rules.{rules}
 use Rattle.numbers.proofs.lift.Goals as goal

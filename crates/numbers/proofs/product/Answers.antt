@@ -1,9 +1,6 @@
 use mir.Facts.{to_z-of_z}
-use lib.IntN.{◌+ℤ◌}
-use Rattle.numbers.specs.Numbers.{◌⊗◌}
-use Rattle.numbers.specs.Words.{number}
 use Rattle.numbers.proofs.NumberLaws.{⊗_low}
-use Rattle.numbers.proofs.WordLaws.{is_mark_lem, not_mark, Fine, sum_of}
+use Rattle.numbers.proofs.WordLaws.{is_mark_lem, not_mark, sum_of}
 use Rattle.numbers.proofs.product.Goals as goal
 
 pub returns-then-a-eq-MARK : goal.returns-then-a-eq-MARK

@@ -1,13 +1,12 @@
 use mathlib.Core.Path.{◌≡◌, sym, ◌∙◌}
-use Prim.Native.Nat.{◌≤◌, ◌-◌}
 use native.Mathlib.Omega.{arith}
 use lib.IntN.{pos}
 use lib.ListN.{length, get_or}
 use mir.Syntax.{w32}
-use mir.Val.{SFits, to_z}
-use Rattle.numbers.specs.Numbers.{⨁, ◌⊗◌, Within}
+use mir.Val.{SFits}
+use Rattle.numbers.specs.Numbers.{Within}
 use Rattle.numbers.specs.Words.{number}
-use Rattle.numbers.specs.Places.{entries, side_of}
+use Rattle.numbers.specs.Places.{side_of}
 use Rattle.numbers.proofs.WordLaws.{number_mark, is_low}
 use Rattle.numbers.proofs.PlaceLaws.{⨁_none, ⨁_more, ⨁_low}
 use borrow.Author.Rules.{rules}

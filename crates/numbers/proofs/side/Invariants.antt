@@ -1,17 +1,9 @@
-use mathlib.Core.Logic.{⊎_elim}
-use mathlib.Core.Path.{◌≡◌, sym, ◌∙◌}
+use mathlib.Core.Path.{◌≡◌}
 use Prim.Native.Nat.{◌≤◌, ◌-◌}
-use native.Mathlib.Omega.{arith}
-use lib.IntN.{pos}
-use lib.ListN.{length, get_or}
-use mir.Syntax.{w32}
-use mir.Val.{SFits, to_z}
-use Rattle.numbers.specs.Numbers.{⨁, ◌⊗◌, Within}
+use lib.ListN.{length}
+use Rattle.numbers.specs.Numbers.{⨁, ◌⊗◌}
 use Rattle.numbers.specs.Words.{number}
-use Rattle.numbers.specs.Places.{entries, side_of}
-use Rattle.numbers.proofs.WordLaws.{number_mark, is_low}
-use Rattle.numbers.proofs.PlaceLaws.{⨁_none, ⨁_more, ⨁_low}
-use borrow.Author.Rules.{rules}
+use Rattle.numbers.specs.Places.{entries}
 use Rattle.numbers.proofs.side.Given as goal
 
 abbrev pub invariant-loop-j : goal.invariant-loop-j

@@ -2,11 +2,9 @@ use mathlib.Core.Path.{◌≡◌}
 use mathlib.Core.Bool.{true, false}
 use lib.IntN.{◌-ℤ◌}
 use lib.Signed.{lt_z}
-use mir.Syntax.{w32}
-use mir.Val.{SFits}
 use mir.Facts.{to_z-of_z}
 use Rattle.numbers.proofs.IntegerLaws.{zarith}
-use Rattle.numbers.proofs.WordLaws.{Finite, finite_word, diff_of, under_new, under_old}
+use Rattle.numbers.proofs.WordLaws.{finite_word, diff_of, under_new, under_old}
 use Rattle.numbers.proofs.under.Goals as goal
 
 pub overflow_sub-d : goal.overflow_sub-d

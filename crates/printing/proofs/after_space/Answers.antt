@@ -1,7 +1,6 @@
 use Rattle.codec.proofs.WriteLaws.{wrote_then, room_first, room_next}
 use mathlib.Core.List.{[], ◌∷◌}
 use Rattle.printing.specs.Text.{spaced}
-use borrow.Author.Rules.{rules}
 use Rattle.printing.proofs.after_space.Goals as goal
 
 pub byte-a-requires : goal.byte-a-requires

@@ -1,6 +1,5 @@
 use mathlib.Core.Path.{refl}
 use Rattle.codec.specs.Number.{put}
-use borrow.Author.Rules.{rules}
 use Rattle.printing.proofs.byte.Goals as goal
 
 pub returns : goal.returns

@@ -1,5 +1,4 @@
 use Rattle.codec.proofs.WriteLaws.{wrote_then, room_first, room_next}
-use borrow.Author.Rules.{rules}
 use Rattle.printing.proofs.counted.Goals as goal
 
 pub word-a-requires : goal.word-a-requires

@@ -2,7 +2,6 @@ use Rattle.codec.proofs.WriteLaws.{wrote_then, room_first, room_next}
 use Rattle.printing.specs.Text.{never_word, refused_word}
 use Rattle.printing.proofs.HeadText.{head_room, head_wrote, number_room, end_room, line_wrote}
 use Rattle.printing.proofs.WordText.{any_byte}
-use borrow.Author.Rules.{rules}
 use Rattle.printing.proofs.head.Goals as goal
 
 pub counted-requires : goal.counted-requires

@@ -1,7 +1,6 @@
 use Rattle.codec.proofs.WriteLaws.{wrote_then, room_first, room_next}
 use Rattle.printing.specs.Text.{line_of}
 use Rattle.printing.proofs.WordText.{any_byte}
-use borrow.Author.Rules.{rules}
 use Rattle.printing.proofs.line.Goals as goal
 
 pub number-a-requires : goal.number-a-requires

@@ -1,6 +1,5 @@
 use Rattle.codec.proofs.WriteLaws.{wrote_then, room_first, room_next}
 use Rattle.printing.proofs.WordText.{any_byte}
-use borrow.Author.Rules.{rules}
 use Rattle.printing.proofs.tally.Goals as goal
 
 pub after_space-a-requires : goal.after_space-a-requires

@@ -1,9 +1,6 @@
-use Prim.Native.Nat.{◌-◌}
 use native.Mathlib.Omega.{arith}
-use lib.ListN.{length}
-use Rattle.codec.proofs.WriteLaws.{Copied, copy_start, copy_more}
+use Rattle.codec.proofs.WriteLaws.{copy_start, copy_more}
 use Rattle.printing.proofs.WordText.{word_done}
-use borrow.Author.Rules.{rules}
 use Rattle.printing.proofs.word.Goals as goal
 
 pub loop-i-init : goal.loop-i-init

@@ -5,14 +5,11 @@ use lib.IntN.{ℤ}
 use native.Mathlib.Omega.{arith}
 use Rattle.sets.specs.declared.Checked.{Checked}
 use Rattle.sets.specs.declared.Told.TheVariants.{Refused}
-use Rattle.sets.specs.Calls.{contains_input}
-use Rattle.sets.specs.Demands.{Good}
 use Rattle.sets.specs.Rules.{tell, tell_after, inside, contains_checked, contains_of}
 use Rattle.sets.proofs.TestLaws.{list_each}
 use Rattle.sets.proofs.FallLaws.{each_wider, testable_all}
 use Rattle.sets.proofs.Membership.{point_long, point_each, inside_by}
 use Rattle.sets.proofs.Asking.{passed_up, contains_as, contains_good}
-use borrow.Author.Rules.{rules}
 use Rattle.sets.proofs.contains.Goals as goal
 
 -- the answer after the checks, by the rule

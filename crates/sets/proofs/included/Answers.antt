@@ -8,13 +8,10 @@ use borrow.Author.Tests.{not-true, not-false}
 use Rattle.sets.specs.declared.Checked.{Checked}
 use Rattle.sets.specs.declared.Checked.TheVariants.{Good as Passed}
 use Rattle.sets.specs.declared.Told.TheVariants.{Refused}
-use Rattle.sets.specs.Calls.{included_input}
-use Rattle.sets.specs.Demands.{Good}
 use Rattle.sets.specs.Rules.{tell, tell_after, has_point, covered, included_checked, included_of}
 use Rattle.sets.proofs.TestLaws.{list_each}
 use Rattle.sets.proofs.FallLaws.{each_wider}
 use Rattle.sets.proofs.Asking.{passed_up, included_as, included_good}
-use borrow.Author.Rules.{rules}
 use Rattle.sets.proofs.included.Goals as goal
 
 -- the test's answer once it is known whether the inner list has a point

@@ -1,7 +1,6 @@
 use Rattle.model.specs.Plain.{bounds_of, edge_of}
 use Rattle.runs.specs.Rule.{following}
 use Rattle.steps.proofs.FrontLaws.{shown_begun}
-use borrow.Author.Rules.{rules}
 use Rattle.steps.proofs.candidate.Goals as goal
 
 pub returns : goal.returns

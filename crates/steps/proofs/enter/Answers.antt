@@ -1,7 +1,6 @@
 use Rattle.model.specs.Plain.{bounds_of}
 use Rattle.runs.specs.Rule.{entering}
 use Rattle.steps.proofs.FrontLaws.{shown_begun}
-use borrow.Author.Rules.{rules}
 use Rattle.steps.proofs.enter.Goals as goal
 
 pub returns : goal.returns

@@ -1,7 +1,6 @@
 use Rattle.model.specs.Plain.{bounds_of}
 use Rattle.runs.specs.Rule.{cut_all}
 use Rattle.steps.proofs.FrontLaws.{met_none, met_some, met_refused}
-use borrow.Author.Rules.{rules}
 use Rattle.steps.proofs.meets.Goals as goal
 
 pub returns-then-m-eq0 : goal.returns-then-m-eq0

@@ -1,4 +1,3 @@
-use borrow.Author.Rules.{rules}
 use Rattle.walk.proofs.WalkLaws.{outline_value, walks_unread, walks_read}
 use Rattle.walk.proofs.walk.Goals as goal
 

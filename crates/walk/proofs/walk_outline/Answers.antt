@@ -1,12 +1,9 @@
-use borrow.Author.Rules.{rules}
 use native.Mathlib.Omega.{arith}
 use Prim.Native.Nat.{◌≤◌}
 use lib.ListN.{length}
 use Rattle.model.specs.Outlines.{model_by}
 use Rattle.area.specs.Area.{record_size}
-use Rattle.walk.specs.Control.{Finds}
-use Rattle.walk.specs.Walks.{ending_of}
-use Rattle.walk.proofs.WalkLaws.{walks_short, ready, not_refused, walks_found, walks_stopped, found_in}
+use Rattle.walk.proofs.WalkLaws.{walks_short, ready, walks_found, walks_stopped, found_in}
 use Rattle.walk.proofs.walk_outline.Goals as goal
 
 pub returns-then-area-size : goal.returns-then-area-size

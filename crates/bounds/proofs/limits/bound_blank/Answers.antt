@@ -3,8 +3,7 @@ use mir.Syntax.{w32}
 use mir.Val.{of_z}
 use Rattle.numbers.proofs.Tells.{never, means}
 use Rattle.bounds.specs.declared.Bound.{Bound}
-use Rattle.bounds.proofs.LimitLaws.{word_zero, tells_none, blank_of, not_at_most}
-use borrow.Author.Rules.{rules}
+use Rattle.bounds.proofs.LimitLaws.{word_zero, tells_none, blank_of}
 use Rattle.bounds.proofs.limits.bound_blank.Goals as goal
 
 pub returns-in_default : goal.returns-in_default

@@ -1,6 +1,5 @@
 use Rattle.bounds.specs.declared.Kind.TheVariants.{AtMost, AtLeast, DifferAtMost, DifferAtLeast, HalfSpace}
 use Rattle.bounds.proofs.LimitLaws.{kind_fits}
-use borrow.Author.Rules.{rules}
 use Rattle.bounds.proofs.limits.bound_fits.Goals as goal
 
 pub returns-in-AtMost : goal.returns-in-AtMost

@@ -1,6 +1,5 @@
 use native.Mathlib.Omega.{arith}
 use Rattle.numbers.proofs.Tells.{never}
-use borrow.Author.Rules.{rules}
 use Rattle.bounds.proofs.limits.bounds_fit.Goals as goal
 
 pub returns-then-count-gt8 : goal.returns-then-count-gt8

@@ -1,14 +1,7 @@
-use native.Mathlib.Omega.{arith}
 use lib.IntN.{pos}
-use lib.ListN.{length}
-use mathlib.Core.Path.{◌≡◌}
 use Prim.Native.Nat.{◌-◌}
-use borrow.Author.Tests.{not-true, not-false}
-use Rattle.numbers.proofs.Tells.{always, never}
-use Rattle.codec.proofs.PackedLaws.{Checked, check_start, check_more, check_done, check_each}
-use Rattle.numbers.proofs.WordLaws.{back}
+use Rattle.codec.proofs.PackedLaws.{Checked}
 use Rattle.bounds.specs.Limits.{EntryLimits}
-use borrow.Author.Rules.{rules}
 use Rattle.bounds.proofs.limits.half_fits.Given as goal
 
 abbrev pub invariant-loop-i : goal.invariant-loop-i

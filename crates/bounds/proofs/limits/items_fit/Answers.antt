@@ -1,13 +1,10 @@
 use native.Mathlib.Omega.{arith}
 use mathlib.Core.Path.{◌≡◌}
-use Prim.Native.Nat.{◌-◌}
 use lib.ListN.{length}
 use borrow.Author.Tests.{not-true, not-false}
 use Rattle.numbers.proofs.Tells.{always, never}
-use Rattle.codec.proofs.PackedLaws.{Checked, check_start, check_more, check_done, check_each}
-use Rattle.bounds.specs.Bounds.{no_bound, past_bound}
-use Rattle.bounds.specs.Limits.{BoundLimits}
-use borrow.Author.Rules.{rules}
+use Rattle.codec.proofs.PackedLaws.{check_start, check_more, check_done, check_each}
+use Rattle.bounds.specs.Bounds.{past_bound}
 use Rattle.bounds.proofs.limits.items_fit.Goals as goal
 
 pub loop-i-init : goal.loop-i-init

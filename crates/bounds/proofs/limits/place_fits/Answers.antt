@@ -1,7 +1,6 @@
 use mir.Facts.{to_z-of_z}
 use Rattle.codec.proofs.PackedLaws.{place_used, place_unused}
 use Rattle.bounds.proofs.LimitLaws.{zero_word}
-use borrow.Author.Rules.{rules}
 use Rattle.bounds.proofs.limits.place_fits.Goals as goal
 
 pub returns-then-i-count : goal.returns-then-i-count

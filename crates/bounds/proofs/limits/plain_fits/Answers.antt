@@ -3,7 +3,6 @@ use Rattle.numbers.proofs.IntegerLaws.{zarith}
 use Rattle.numbers.proofs.Tells.{never, means}
 use Rattle.numbers.proofs.WordLaws.{back}
 use Rattle.bounds.proofs.LimitLaws.{tells_none}
-use borrow.Author.Rules.{rules}
 use Rattle.bounds.proofs.limits.plain_fits.Goals as goal
 
 pub returns-then-n-b : goal.returns-then-n-b

@@ -3,7 +3,6 @@ use mir.Syntax.{w32}
 use mir.Val.{of_z}
 use Rattle.numbers.proofs.Tells.{never, means}
 use Rattle.bounds.proofs.LimitLaws.{word_zero}
-use borrow.Author.Rules.{rules}
 use Rattle.bounds.proofs.limits.whole_fits.Goals as goal
 
 pub returns-then-b-ne0 : goal.returns-then-b-ne0

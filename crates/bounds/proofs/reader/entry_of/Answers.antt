@@ -1,7 +1,6 @@
 use mathlib.Core.Path.{refl}
 use Rattle.numbers.proofs.WordLaws.{back}
 use borrow.Author.Tests.{eq-eqb, ne_eqb}
-use borrow.Author.Rules.{rules}
 use Rattle.bounds.proofs.reader.entry_of.Goals as goal
 
 pub returns-then-v-eq0 : goal.returns-then-v-eq0

@@ -4,7 +4,6 @@ use Rattle.codec.proofs.FormLaws.{asked, unasked, valued, unvalued, refusing, li
 use Rattle.bounds.specs.declared.Kind.TheVariants.{AtMost, AtLeast, DifferAtMost, DifferAtLeast, HalfSpace}
 use Rattle.bounds.specs.Bounds.{plain_form, differ_form, half_form, bound_form}
 use Rattle.bounds.proofs.KindLaws.{chosen}
-use borrow.Author.Rules.{rules}
 use Rattle.bounds.proofs.reader.read_bound.Goals as goal
 
 pub returns-in_default : goal.returns-in_default

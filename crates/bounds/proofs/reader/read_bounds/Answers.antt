@@ -1,14 +1,9 @@
 use mathlib.Core.Path.{ap, ◌∙◌}
-use Prim.Native.Nat.{◌-◌, ◌<◌}
 use native.Mathlib.Omega.{arith}
-use lib.ListN.{drop}
-use Rattle.codec.specs.Number.{got}
-use Rattle.codec.specs.Form.{done, ask}
 use Rattle.codec.specs.Answers.{why_number, why_step}
-use Rattle.codec.proofs.ArrayLaws.{Filling, fill_start, fill_step, fill_stop, fill_done}
-use Rattle.codec.proofs.FormLaws.{Finds, asked, unasked, valued, unvalued, after, stops, stepped, unstepped, finished, found_below, refusing, giving} 
-use Rattle.bounds.specs.Bounds.{no_bound, bound_form, bounds_form}
-use borrow.Author.Rules.{rules}
+use Rattle.codec.proofs.ArrayLaws.{fill_start, fill_step, fill_stop, fill_done}
+use Rattle.codec.proofs.FormLaws.{asked, unasked, valued, unvalued, after, stops, stepped, unstepped, finished, found_below, refusing, giving}
+use Rattle.bounds.specs.Bounds.{bounds_form}
 use Rattle.bounds.proofs.reader.read_bounds.Goals as goal
 
 pub returns-in_default : goal.returns-in_default

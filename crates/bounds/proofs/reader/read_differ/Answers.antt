@@ -14,7 +14,6 @@ use borrow.Author.Tests.{eq-eqb, ne_eqb}
 use Rattle.codec.specs.Answers.{why_number}
 use Rattle.codec.proofs.FormLaws.{Finds, asked, unasked, valued, unvalued, finished, found_below, refusing, giving, faulty}
 use Rattle.bounds.specs.Bounds.{differ_form}
-use borrow.Author.Rules.{rules}
 use Rattle.bounds.proofs.reader.read_differ.Goals as goal
 
 -- the clocks x and y are one: a fault of y

@@ -1,14 +1,8 @@
-use Rattle.numbers.proofs.WordLaws.{back}
-use mathlib.Core.Path.{ap, ◌∙◌}
-use Rattle.codec.specs.Answers.{why_number}
-use Rattle.codec.proofs.FormLaws.{blank_beside}
 use Prim.Native.Nat.{◌-◌}
 use lib.IntN.{pos}
 use lib.ListN.{drop}
-use Rattle.codec.proofs.ArrayLaws.{Filling, fill_start, fill_step, fill_stop, fill_done}
-use Rattle.codec.proofs.FormLaws.{asked, unasked, valued, unvalued, finished, found_below, refusing, giving}
+use Rattle.codec.proofs.ArrayLaws.{Filling}
 use Rattle.bounds.specs.Bounds.{entry_form}
-use borrow.Author.Rules.{rules}
 use Rattle.bounds.proofs.reader.read_half.Given as goal
 
 abbrev pub invariant-loop-i : goal.invariant-loop-i

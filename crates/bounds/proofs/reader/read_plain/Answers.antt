@@ -4,7 +4,6 @@ use Rattle.codec.specs.Answers.{why_number}
 use Rattle.codec.proofs.FormLaws.{asked, unasked, valued, unvalued, finished, found_below, refusing, giving}
 use Rattle.bounds.specs.Bounds.{plain_form}
 use native.Mathlib.Omega.{arith}
-use borrow.Author.Rules.{rules}
 use Rattle.bounds.proofs.reader.read_plain.Goals as goal
 
 pub returns-in_default : goal.returns-in_default

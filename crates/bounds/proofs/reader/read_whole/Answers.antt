@@ -2,7 +2,6 @@ use mathlib.Core.Path.{ap, ◌∙◌}
 use Rattle.codec.specs.Answers.{why_step}
 use Rattle.codec.proofs.FormLaws.{after, stops, stepped, unstepped, finished, refusing, giving}
 use Rattle.bounds.specs.Bounds.{half_form}
-use borrow.Author.Rules.{rules}
 use Rattle.bounds.proofs.reader.read_whole.Goals as goal
 
 pub returns-in_default : goal.returns-in_default

@@ -1,7 +1,6 @@
 use native.Mathlib.Omega.{arith}
 use Rattle.bounds.specs.declared.Kind.TheVariants.{AtMost, AtLeast, DifferAtMost, DifferAtLeast, HalfSpace}
 use Rattle.bounds.proofs.LimitLaws.{fits_as, bytes_as}
-use borrow.Author.Rules.{rules}
 use Rattle.bounds.proofs.writer.write_bound.Goals as goal
 
 pub write_plain-requires : goal.write_plain-requires

@@ -1,7 +1,6 @@
 use native.Mathlib.Omega.{arith}
 use Rattle.codec.proofs.WriteLaws.{wrote_then, room_first, room_next}
 use Rattle.bounds.specs.Written.{bounds_bytes}
-use borrow.Author.Rules.{rules}
 use Rattle.bounds.proofs.writer.write_bounds.Goals as goal
 
 pub write_number-a-requires : goal.write_number-a-requires

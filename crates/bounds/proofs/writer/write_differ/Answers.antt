@@ -2,7 +2,6 @@ use native.Mathlib.Omega.{arith}
 use Rattle.codec.proofs.WriteLaws.{wrote_then, room_first, room_next}
 use Rattle.numbers.proofs.WordLaws.{back}
 use Rattle.bounds.proofs.LimitLaws.{abs_small, fold_small}
-use borrow.Author.Rules.{rules}
 use Rattle.bounds.proofs.writer.write_differ.Goals as goal
 
 pub fold-v-requires : goal.fold-v-requires

@@ -1,14 +1,13 @@
 use Rattle.bounds.specs.Limits.{EntryLimits}
 use Rattle.bounds.proofs.LimitLaws.{entry_small}
-use Prim.Native.Nat.{◌-◌, ◌≤◌}
+use Prim.Native.Nat.{◌≤◌}
 use native.Mathlib.Omega.{arith}
-use lib.IntN.{ℤ, pos}
+use lib.IntN.{pos}
 use lib.ListN.{length, get_or}
-use Rattle.codec.proofs.WriteLaws.{Storing, store_start, store_room, store_more, store_done, kept_long}
+use Rattle.codec.proofs.WriteLaws.{store_start, store_room, store_more, store_done, kept_long}
 use Rattle.codec.proofs.PackedLaws.{check_each}
 use Rattle.numbers.proofs.WordLaws.{back}
 use Rattle.bounds.specs.Written.{entry_bytes}
-use borrow.Author.Rules.{rules}
 use Rattle.bounds.proofs.writer.write_half.Goals as goal
 
 pub loop-i-init : goal.loop-i-init

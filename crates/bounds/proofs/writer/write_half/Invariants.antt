@@ -1,14 +1,6 @@
-use Rattle.bounds.specs.Limits.{EntryLimits}
-use Rattle.bounds.proofs.LimitLaws.{entry_small}
-use Prim.Native.Nat.{◌-◌, ◌≤◌}
-use native.Mathlib.Omega.{arith}
-use lib.IntN.{ℤ, pos}
-use lib.ListN.{length, get_or}
-use Rattle.codec.proofs.WriteLaws.{Storing, store_start, store_room, store_more, store_done, kept_long}
-use Rattle.codec.proofs.PackedLaws.{check_each}
-use Rattle.numbers.proofs.WordLaws.{back}
+use Prim.Native.Nat.{◌-◌}
+use Rattle.codec.proofs.WriteLaws.{Storing}
 use Rattle.bounds.specs.Written.{entry_bytes}
-use borrow.Author.Rules.{rules}
 use Rattle.bounds.proofs.writer.write_half.Given as goal
 
 abbrev pub invariant-loop-i : goal.invariant-loop-i

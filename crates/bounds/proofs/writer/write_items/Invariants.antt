@@ -1,11 +1,6 @@
-use Prim.Native.Nat.{◌-◌, ◌≤◌}
-use native.Mathlib.Omega.{arith}
-use lib.ListN.{length}
-use Rattle.codec.proofs.WriteLaws.{Storing, store_start, store_room, store_more, store_done, kept_long}
-use Rattle.codec.proofs.PackedLaws.{check_each}
-use Rattle.bounds.specs.Bounds.{past_bound}
+use Prim.Native.Nat.{◌-◌}
+use Rattle.codec.proofs.WriteLaws.{Storing}
 use Rattle.bounds.specs.Written.{bound_bytes}
-use borrow.Author.Rules.{rules}
 use Rattle.bounds.proofs.writer.write_items.Given as goal
 
 abbrev pub invariant-loop-i : goal.invariant-loop-i

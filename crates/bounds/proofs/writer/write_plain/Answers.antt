@@ -2,7 +2,6 @@ use native.Mathlib.Omega.{arith}
 use Rattle.codec.proofs.WriteLaws.{wrote_then, room_first, room_next}
 use Rattle.numbers.proofs.WordLaws.{back}
 use Rattle.bounds.proofs.LimitLaws.{not_negative}
-use borrow.Author.Rules.{rules}
 use Rattle.bounds.proofs.writer.write_plain.Goals as goal
 
 pub write_number-a-requires : goal.write_number-a-requires

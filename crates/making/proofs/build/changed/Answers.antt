@@ -1,4 +1,4 @@
-use mathlib.Core.Path.{◌≡◌, sym, subst}
+use mathlib.Core.Path.{sym, subst}
 use native.Mathlib.Omega.{arith}
 use lib.Seq.{length-take-le}
 use mir.Facts.{to_z-of_z}
@@ -8,12 +8,9 @@ use Rattle.numbers.specs.Places.{entries}
 use Rattle.numbers.proofs.NumberLaws.{wider}
 use Rattle.numbers.proofs.WordLaws.{back}
 use Rattle.making.specs.declared.build.Change.{Change}
-use Rattle.making.specs.declared.build.Change.TheVariants.{Replace}
-use Rattle.making.specs.Limits.{ResetLimits}
 use Rattle.making.specs.Change.{Changeable, Changes}
 use Rattle.making.proofs.ChangeLaws.{changes_stay, changes_ray, changes_replace}
 use Rattle.making.proofs.ChangeLaws.{value_fin, value_near, value_fits}
-use borrow.Author.Rules.{rules}
 use Rattle.making.proofs.build.changed.Goals as goal
 
 pub slice_bounds-ray-end : goal.slice_bounds-ray-end

@@ -7,7 +7,6 @@ use lib.Seq.{length-take-le}
 use Rattle.algebra.specs.Vectors.{Vector}
 use Rattle.making.specs.Work.{Added}
 use Rattle.making.proofs.BuildLaws.{added_one}
-use borrow.Author.Rules.{rules}
 use Rattle.making.proofs.build.one.Goals as goal
 
 pub slice_bounds-push-end : goal.slice_bounds-push-end

@@ -2,7 +2,6 @@ use mathlib.Core.Path.{refl, sym, ◌∙◌}
 use borrow.Author.Tests.{not-true, not-false}
 use native.Mathlib.Omega.{arith}
 use Rattle.making.proofs.CallLaws.{room_all, count_words, stay_grown, pointed_none, pointed_all}
-use borrow.Author.Rules.{rules}
 use Rattle.making.proofs.build.pointed.Goals as goal
 
 pub has_point-requires : goal.has_point-requires

@@ -1,9 +1,7 @@
-use mathlib.Core.Path.{◌≡◌, refl, sym, ◌∙◌}
-use Prim.Native.Nat.{suc, ◌≤◌, ◌<◌, ◌-◌}
+use mathlib.Core.Path.{refl, sym, ◌∙◌}
+use Prim.Native.Nat.{◌<◌}
 use native.Mathlib.Omega.{arith}
 use lib.ListN.{length}
-use Rattle.sets.specs.Rules.{flat}
-use Rattle.making.specs.Clean.{clean_from, clean_flags}
 use Rattle.making.proofs.CleanLaws.{try_long, clean_start, clean_more, clean_done}
 use Rattle.making.proofs.clean.clean.Goals as goal
 

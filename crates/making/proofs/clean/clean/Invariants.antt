@@ -1,10 +1,8 @@
-use mathlib.Core.Path.{◌≡◌, refl, sym, ◌∙◌}
-use Prim.Native.Nat.{suc, ◌≤◌, ◌<◌, ◌-◌}
-use native.Mathlib.Omega.{arith}
+use mathlib.Core.Path.{◌≡◌}
+use Prim.Native.Nat.{suc, ◌≤◌, ◌-◌}
 use lib.ListN.{length}
 use Rattle.sets.specs.Rules.{flat}
 use Rattle.making.specs.Clean.{clean_from, clean_flags}
-use Rattle.making.proofs.CleanLaws.{try_long, clean_start, clean_more, clean_done}
 use Rattle.making.proofs.clean.clean.Given as goal
 
 abbrev pub invariant-loop-i : goal.invariant-loop-i

@@ -1,16 +1,11 @@
-use mathlib.Core.Path.{◌≡◌, ◌∙◌, ap}
-use mathlib.Core.Bool.{false}
-use Prim.Native.Nat.{◌+◌, ◌*◌, ◌≤◌}
+use mathlib.Core.Path.{◌∙◌, ap}
+use Prim.Native.Nat.{◌+◌, ◌*◌}
 use native.Mathlib.Numerals.{add-one}
 use native.Mathlib.Omega.{arith}
-use lib.ListN.{length, set}
-use Rattle.sets.specs.Rules.{flat, attained}
-use Rattle.sets.specs.Falls.{masked}
 use Rattle.sets.proofs.RowLaws.{part_is}
 use Rattle.sets.proofs.FallLaws.{nowhere}
 use Rattle.making.proofs.RangeLaws.{row_room}
 use Rattle.making.proofs.CleanLaws.{short_attained, try_testable, try_drops, try_keeps}
-use borrow.Author.Rules.{rules}
 use Rattle.making.proofs.clean.try_one.Goals as goal
 
 pub overflow_mul-at : goal.overflow_mul-at

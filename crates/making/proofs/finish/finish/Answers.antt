@@ -1,11 +1,10 @@
-use mathlib.Core.Bool.{Bool, true}
-use mathlib.Core.List.{List, ◌++◌}
+use mathlib.Core.Bool.{true}
 use mathlib.Core.Path.{◌≡◌, sym, ◌∙◌, ap, subst}
 use Prim.Native.Nat.{suc, ◌*◌, ◌≤◌}
 use native.Mathlib.Numerals.{add-one}
 use native.Mathlib.Omega.{arith}
 use borrow.Author.Tests.{not-true, not-false}
-use lib.ListN.{length, take, length-append}
+use lib.ListN.{length, length-append}
 use lib.Seq.{length-take-le, take_at}
 use Rattle.algebra.specs.Working.{some_point}
 use Rattle.sets.specs.Rules.{flat}
@@ -14,7 +13,6 @@ use Rattle.making.specs.Clean.{clean_flags}
 use Rattle.making.specs.Finish.{Writable, Writes, alive_ok}
 use Rattle.making.proofs.FinishLaws.{point_held, finishes_none, trues_long, cleanable, flags_long, writable}
 use Rattle.making.proofs.FinishLaws.{finishes_range, finishes_written}
-use borrow.Author.Rules.{rules}
 use Rattle.making.proofs.finish.finish.Goals as goal
 
 pub slice_bounds-has_point-end : goal.slice_bounds-has_point-end

@@ -5,9 +5,8 @@ use native.Mathlib.Omega.{arith}
 use lib.IntN.{pos}
 use lib.ListN.{length, replicate}
 use Rattle.sorting.specs.declared.Emitted.{Emitted}
-use Rattle.sorting.specs.Emit.{Emits, Sorted}
+use Rattle.sorting.specs.Emit.{Emits}
 use Rattle.making.proofs.FinishLaws.{front_ends, writes_many, writes_done}
-use borrow.Author.Rules.{rules}
 use Rattle.making.proofs.finish.write.Goals as goal
 
 pub returns-in_default : goal.returns-in_default

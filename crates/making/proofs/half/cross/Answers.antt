@@ -1,15 +1,11 @@
-use Prim.Native.Nat.{◌+◌, ◌*◌, ◌≤◌}
+use Prim.Native.Nat.{◌+◌, ◌*◌}
 use native.Mathlib.Omega.{arith}
-use lib.ListN.{length}
-use Rattle.numbers.specs.Numbers.{◌≼◌}
 use Rattle.numbers.proofs.WordLaws.{back}
 use Rattle.algebra.specs.Vectors.{vectors}
 use Rattle.sets.proofs.RowLaws.{part_is}
 use Rattle.sets.proofs.FallLaws.{place_short, place_enough}
-use Rattle.making.specs.Work.{side_word}
 use Rattle.making.proofs.BuildLaws.{row_vector}
 use Rattle.making.proofs.HalfLaws.{counted, inside, row_long, row_near, cross_none, cross_one, cross_room}
-use borrow.Author.Rules.{rules}
 use Rattle.making.proofs.half.cross.Goals as goal
 
 pub overflow_mul-a : goal.overflow_mul-a

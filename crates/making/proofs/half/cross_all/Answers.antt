@@ -1,14 +1,12 @@
 use mathlib.Core.Path.{sym, ◌∙◌, subst}
-use Prim.Native.Nat.{ℕ, ◌≤◌, ◌<◌, ◌-◌}
+use Prim.Native.Nat.{ℕ, ◌<◌}
 use native.Mathlib.Nat.{le_antisymm}
 use native.Mathlib.Omega.{arith}
-use lib.ListN.{length}
 use Rattle.algebra.specs.Vectors.{vectors}
 use Rattle.sets.proofs.RowLaws.{row_few}
-use Rattle.making.specs.Work.{Grown, up_to, cross_at}
+use Rattle.making.specs.Work.{cross_at}
 use Rattle.making.proofs.BuildLaws.{rows_count}
 use Rattle.making.proofs.HalfLaws.{growing_start, growing_next, growing_done, room_part, uncounted}
-use borrow.Author.Rules.{rules}
 use Rattle.making.proofs.half.cross_all.Goals as goal
 
 pub overflow_add-m : goal.overflow_add-m

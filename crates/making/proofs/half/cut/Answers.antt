@@ -11,7 +11,6 @@ use Rattle.sets.proofs.FallLaws.{each_part}
 use Rattle.making.specs.Work.{Sides, Grown}
 use Rattle.making.proofs.HalfLaws.{crossed_is, left_is, right_is, left_long, right_long, left_words, right_words}
 use Rattle.making.proofs.HalfLaws.{sides_near, crossed_room}
-use borrow.Author.Rules.{rules}
 use Rattle.making.proofs.half.cut.Goals as goal
 
 pub slice_bounds-sides-end-2 : goal.slice_bounds-sides-end-2

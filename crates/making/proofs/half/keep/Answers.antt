@@ -1,17 +1,14 @@
 use mathlib.Core.Path.{subst}
 use mathlib.Core.List.{[], ◌∷◌}
-use Prim.Native.Nat.{◌+◌, ◌*◌, ◌≤◌}
+use Prim.Native.Nat.{◌+◌, ◌*◌}
 use native.Mathlib.Omega.{arith}
-use lib.ListN.{length}
-use Rattle.numbers.specs.Numbers.{◌≼◌}
 use Rattle.algebra.specs.Vectors.{Vector, vector, vectors}
 use Rattle.sets.proofs.RowLaws.{part_is}
 use Rattle.sets.proofs.FallLaws.{each_wider, place_short, place_enough}
-use Rattle.making.specs.Work.{Added, side_word}
+use Rattle.making.specs.Work.{Added}
 use Rattle.making.proofs.BuildLaws.{added_one, row_vector}
 use Rattle.making.proofs.HalfLaws.{counted, inside, row_long, row_near}
 use Rattle.making.proofs.HalfLaws.{keep_none, keep_all, keep_room, keep_rest}
-use borrow.Author.Rules.{rules}
 use Rattle.making.proofs.half.keep.Goals as goal
 
 pub returns-then-rs-i : goal.returns-then-rs-i

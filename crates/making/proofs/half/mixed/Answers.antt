@@ -14,7 +14,6 @@ use Rattle.sets.proofs.FallLaws.{each_wider}
 use Rattle.making.specs.Work.{Added}
 use Rattle.making.proofs.BuildLaws.{added_one}
 use Rattle.making.proofs.HalfLaws.{mixed_words, mixed_near, copied_part}
-use borrow.Author.Rules.{rules}
 use Rattle.making.proofs.half.mixed.Goals as goal
 
 pub slice_bounds-mix-end : goal.slice_bounds-mix-end

@@ -1,18 +1,15 @@
 use mathlib.Core.Path.{sym, ◌∙◌, subst}
-use mathlib.Core.List.{map}
-use Prim.Native.Nat.{ℕ, ◌+◌, ◌*◌, ◌/◌, ◌≤◌, ◌<◌, ◌-◌}
+use Prim.Native.Nat.{ℕ, ◌+◌, ◌*◌, ◌/◌, ◌<◌}
 use native.Mathlib.Nat.{le_antisymm}
 use native.Mathlib.Numerals.{add-one}
 use native.Mathlib.Omega.{arith}
 use lib.ListN.{length}
-use Rattle.numbers.specs.Words.{number}
 use Rattle.numbers.proofs.WordLaws.{back}
-use Rattle.algebra.specs.Vectors.{vectors, count}
+use Rattle.algebra.specs.Vectors.{count}
 use Rattle.sets.proofs.RowLaws.{row_inside, part_is, part_long}
 use Rattle.sets.proofs.FallLaws.{each_wider, each_part}
 use Rattle.making.proofs.BuildLaws.{rows_count}
-use Rattle.making.proofs.SideLaws.{side_row, Siding, siding_start, siding_next, siding_done}
-use borrow.Author.Rules.{rules}
+use Rattle.making.proofs.SideLaws.{side_row, siding_start, siding_next, siding_done}
 use Rattle.making.proofs.half.sides.Goals as goal
 
 pub overflow_add-w : goal.overflow_add-w

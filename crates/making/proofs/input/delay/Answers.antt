@@ -1,9 +1,7 @@
-use mathlib.Core.Path.{◌≡◌, sym, ◌∙◌}
-use mathlib.Core.Bool.{true}
+use mathlib.Core.Path.{sym, ◌∙◌}
 use borrow.Author.Tests.{not-true, not-false}
-use Rattle.making.specs.Rules.{shape_ok, delay_checked}
+use Rattle.making.specs.Rules.{delay_checked}
 use Rattle.making.proofs.InputLaws.{tells_shape}
-use borrow.Author.Rules.{rules}
 use Rattle.making.proofs.input.delay.Goals as goal
 
 pub returns-then-not-shape : goal.returns-then-not-shape

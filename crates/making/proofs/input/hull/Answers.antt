@@ -1,11 +1,7 @@
-use mathlib.Core.Path.{◌≡◌, sym, ◌∙◌}
-use mathlib.Core.Bool.{true}
+use mathlib.Core.Path.{sym, ◌∙◌}
 use borrow.Author.Tests.{not-true, not-false}
-use lib.ListN.{length}
-use Rattle.sets.specs.Tests.{whole_ok, list_ok}
-use Rattle.making.specs.Rules.{shape_ok, hull_checked}
+use Rattle.making.specs.Rules.{hull_checked}
 use Rattle.making.proofs.InputLaws.{tells_shape}
-use borrow.Author.Rules.{rules}
 use Rattle.making.proofs.input.hull.Goals as goal
 
 pub returns-then-not-shape : goal.returns-then-not-shape

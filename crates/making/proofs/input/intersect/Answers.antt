@@ -1,13 +1,9 @@
-use mathlib.Core.Path.{◌≡◌, sym, ◌∙◌}
-use mathlib.Core.Bool.{true}
-use Prim.Native.Nat.{◌≤◌}
+use mathlib.Core.Path.{sym, ◌∙◌}
 use native.Mathlib.Numerals.{add-one}
 use native.Mathlib.Omega.{arith}
 use borrow.Author.Tests.{not-true, not-false, eq-eqb, ne_eqb}
-use Rattle.sets.specs.Tests.{list_ok}
-use Rattle.making.specs.Rules.{shape_ok, intersect_checked}
+use Rattle.making.specs.Rules.{intersect_checked}
 use Rattle.making.proofs.InputLaws.{tells_shape}
-use borrow.Author.Rules.{rules}
 use Rattle.making.proofs.input.intersect.Goals as goal
 
 pub returns-then-not-shape : goal.returns-then-not-shape

@@ -4,12 +4,10 @@ use lib.Dec.{ltb}
 use borrow.Author.Tests.{not-true, not-false, lt-ltb, le-ltb}
 use mir.Facts.{to_z-of_z}
 use Rattle.sets.specs.declared.Checked.{Checked}
-use Rattle.sets.specs.declared.Checked.TheVariants.{Good}
 use Rattle.sets.specs.Tests.{tight}
 use Rattle.numbers.specs.Words.{number}
-use Rattle.making.specs.Rules.{arg_checked, delay_checked, reset_checked}
+use Rattle.making.specs.Rules.{arg_checked, reset_checked}
 use Rattle.making.proofs.InputLaws.{arg_passed}
-use borrow.Author.Rules.{rules}
 use Rattle.making.proofs.input.reset.Goals as goal
 
 pub returns-in_default : goal.returns-in_default

@@ -1,12 +1,9 @@
-use mathlib.Core.Path.{◌≡◌, sym, ◌∙◌}
-use mathlib.Core.Bool.{true}
+use mathlib.Core.Path.{sym, ◌∙◌}
 use native.Mathlib.Numerals.{add-one}
 use native.Mathlib.Omega.{arith}
 use borrow.Author.Tests.{not-true, not-false}
-use Rattle.sets.specs.Tests.{clocks_ok}
 use Rattle.sets.proofs.TestLaws.{tells_clocks}
 use Rattle.making.specs.Rules.{shape_ok}
-use borrow.Author.Rules.{rules}
 use Rattle.making.proofs.input.shape.Goals as goal
 
 pub returns-then-not-clocks : goal.returns-then-not-clocks

@@ -1,18 +1,13 @@
-use mathlib.Core.Path.{◌≡◌, refl, sym, ◌∙◌}
-use mathlib.Core.Bool.{true, false, cond}
-use Prim.Native.Nat.{◌+◌, ◌*◌, ◌≤◌, ◌-◌}
+use mathlib.Core.Path.{refl, sym, ◌∙◌}
+use Prim.Native.Nat.{◌+◌, ◌*◌}
 use native.Mathlib.Nat.{le_antisymm}
 use native.Mathlib.Numerals.{add-one}
 use native.Mathlib.Omega.{arith}
 use borrow.Author.Tests.{not-true, not-false}
-use lib.ListN.{length, get_or}
-use Rattle.numbers.specs.Tests.{every}
 use Rattle.numbers.proofs.Tells.{every_more, every_stop, every_done}
-use Rattle.sets.specs.Rules.{flat}
 use Rattle.sets.proofs.RowLaws.{part_is, part_long}
-use Rattle.making.specs.Finish.{row_ok, alive_ok}
+use Rattle.making.specs.Finish.{alive_ok}
 use Rattle.making.proofs.RangeLaws.{row_room, row_test, off_passes, on_is}
-use borrow.Author.Rules.{rules}
 use Rattle.making.proofs.range.fits.Goals as goal
 use Rattle.making.proofs.range.fits.Goals.{then-alive-i+else-not-row_fits, else-alive-i}
 
@@ -50,13 +45,15 @@ overflow_add-i c = omega (arith, c.well_formed, c.loop-i-test.true)
 
 pub loop-i-preserved : goal.loop-i-preserved
 loop-i-preserved c =
-    let l = c.loop-i in
-    (omega arith, every_more _ l.i l.invariant.1 (elim c.if-alive-i.branch [
-      then-alive-i+else-not-row_fits w ↦
-        on_is _ _ w.if-alive-i.true ∙ sym (row_test c.args.n c.args.work.now l.i) ∙ sym w.row_fits.ensures
-        ∙ not-false _ w.if-not-row_fits.false-raw
-    | else-alive-i w ↦ off_passes _ _ w.if-alive-i.false
-    ]))
+    let l = c.loop-i in (
+      omega arith,
+      every_more _ l.i l.invariant.1 (elim c.if-alive-i.branch [
+        | then-alive-i+else-not-row_fits w ↦
+            on_is _ _ w.if-alive-i.true ∙ sym (row_test c.args.n c.args.work.now l.i) ∙ sym w.row_fits.ensures
+            ∙ not-false _ w.if-not-row_fits.false-raw
+        | else-alive-i w ↦ off_passes _ _ w.if-alive-i.false
+      ]),
+    )
 
 pub returns : goal.returns
 unfolding alive_ok

@@ -1,16 +1,10 @@
-use mathlib.Core.Path.{◌≡◌, refl, sym, ◌∙◌}
+use mathlib.Core.Path.{◌≡◌}
 use mathlib.Core.Bool.{true}
 use Prim.Native.Nat.{◌≤◌, ◌-◌}
-use native.Mathlib.Omega.{arith}
-use borrow.Author.Tests.{not-true, not-false}
 use Rattle.numbers.specs.Tests.{every}
 use Rattle.numbers.specs.Places.{entries}
-use Rattle.numbers.proofs.Tells.{every_more, every_stop, every_done}
 use Rattle.algebra.specs.Working.{is_point}
 use Rattle.making.specs.Rules.{entry_ok}
-use Rattle.making.specs.Finish.{row_ok}
-use Rattle.making.proofs.RangeLaws.{entry_test}
-use borrow.Author.Rules.{rules}
 use Rattle.making.proofs.range.row_fits.Given as goal
 
 abbrev pub invariant-loop-j : goal.invariant-loop-j

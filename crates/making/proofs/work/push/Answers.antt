@@ -6,14 +6,11 @@ use native.Mathlib.Omega.{arith}
 use borrow.Rule.Slice.PartMut.{mid_len}
 use lib.IntN.{ℤ}
 use lib.ListN.{length, take, drop}
-use mir.Syntax.{w32}
-use mir.Val.{to_z, of_z}
 use Rattle.numbers.proofs.NumberLaws.{wider}
 use Rattle.numbers.proofs.WordLaws.{back}
 use Rattle.sets.proofs.FallLaws.{each_wider}
-use Rattle.making.specs.Work.{shift_of, Shifted}
+use Rattle.making.specs.Work.{Shifted}
 use Rattle.making.proofs.PushLaws.{shift_near, pushed}
-use borrow.Author.Rules.{rules}
 use Rattle.making.proofs.work.push.Goals as goal
 
 -- the part lent has n + 1 words

@@ -13,7 +13,6 @@ use Rattle.numbers.proofs.WordLaws.{Finite, back, is_mark_lem, not_mark}
 use Rattle.sets.proofs.FallLaws.{each_wider}
 use Rattle.making.proofs.WorkLaws.{negated, shift_point, shift_none, shift_ray, largest, zeros_long, zeros_each}
 use Rattle.making.proofs.WorkLaws.{negated_back, most_none, most_some, most_near}
-use borrow.Author.Rules.{rules}
 use Rattle.making.proofs.work.shift.Goals as goal
 
 pub overflow_sub-result : goal.overflow_sub-result

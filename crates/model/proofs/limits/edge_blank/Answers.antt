@@ -2,7 +2,6 @@ use mathlib.Core.Path.{ap}
 use Rattle.numbers.proofs.Tells.{never, means}
 use Rattle.model.specs.declared.Edge.{Edge}
 use Rattle.model.proofs.BlankLaws.{same_edge}
-use borrow.Author.Rules.{rules}
 use Rattle.model.proofs.limits.edge_blank.Goals as goal
 
 pub returns-then-e-ne0 : goal.returns-then-e-ne0

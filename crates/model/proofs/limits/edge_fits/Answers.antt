@@ -1,7 +1,6 @@
 use Prim.Native.Nat.{◌<◌, ◌^◌}
 use native.Mathlib.Omega.{arith}
 use Rattle.numbers.proofs.Tells.{never, means}
-use borrow.Author.Rules.{rules}
 use Rattle.model.proofs.limits.edge_fits.Goals as goal
 
 pub returns-then-l-e : goal.returns-then-l-e

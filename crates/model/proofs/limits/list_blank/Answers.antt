@@ -2,7 +2,6 @@ use mathlib.Core.Path.{ap}
 use Rattle.numbers.proofs.Tells.{never}
 use Rattle.bounds.specs.declared.Bounds.{Bounds}
 use Rattle.model.proofs.BlankLaws.{tells_blank}
-use borrow.Author.Rules.{rules}
 use Rattle.model.proofs.limits.list_blank.Goals as goal
 
 pub returns-then-bs-ne0 : goal.returns-then-bs-ne0

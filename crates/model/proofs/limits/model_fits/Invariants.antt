@@ -1,15 +1,9 @@
-use native.Mathlib.Omega.{arith}
-use mathlib.Core.Path.{◌≡◌, sym, ◌∙◌}
 use Prim.Native.Nat.{◌-◌}
-use lib.ListN.{length, length-map}
-use borrow.Author.Tests.{not-true, not-false}
-use Rattle.numbers.proofs.Tells.{never, means}
-use Rattle.codec.proofs.PackedLaws.{Checked, check_start, check_more, check_done, check_each}
+use Rattle.codec.proofs.PackedLaws.{Checked}
 use Rattle.bounds.specs.Bounds.{no_bounds}
 use Rattle.bounds.specs.Limits.{BoundsLimits}
 use Rattle.model.specs.Models.{no_edge, past_bounds, past_edge}
-use Rattle.model.specs.Limits.{EdgeLimits, NumberLimits}
-use borrow.Author.Rules.{rules}
+use Rattle.model.specs.Limits.{EdgeLimits}
 use Rattle.model.proofs.limits.model_fits.Given as goal
 
 abbrev pub invariant-loop-i : goal.invariant-loop-i

@@ -1,5 +1,4 @@
 use Rattle.codec.proofs.PackedLaws.{place_used, place_unused}
-use borrow.Author.Rules.{rules}
 use Rattle.model.proofs.limits.step_fits.Goals as goal
 
 pub returns-then-i-count : goal.returns-then-i-count

@@ -1,9 +1,7 @@
 use mathlib.Core.Path.{ap, ◌∙◌}
-use Prim.Native.Nat.{◌-◌}
 use Rattle.codec.specs.Answers.{why_step}
 use Rattle.codec.proofs.FormLaws.{stepped, unstepped}
-use borrow.Author.Rules.{rules}
-use Rattle.model.proofs.SurveyLaws.{EdgesPlacing, edge_start, edge_step, edge_stop, edge_done}
+use Rattle.model.proofs.SurveyLaws.{edge_start, edge_step, edge_stop, edge_done}
 use Rattle.model.proofs.places.edge_places.Goals as goal
 
 pub loop-i-init : goal.loop-i-init

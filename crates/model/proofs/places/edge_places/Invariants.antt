@@ -1,9 +1,5 @@
-use mathlib.Core.Path.{ap, ◌∙◌}
 use Prim.Native.Nat.{◌-◌}
-use Rattle.codec.specs.Answers.{why_step}
-use Rattle.codec.proofs.FormLaws.{stepped, unstepped}
-use borrow.Author.Rules.{rules}
-use Rattle.model.proofs.SurveyLaws.{EdgesPlacing, edge_start, edge_step, edge_stop, edge_done}
+use Rattle.model.proofs.SurveyLaws.{EdgesPlacing}
 use Rattle.model.proofs.places.edge_places.Given as goal
 
 abbrev pub invariant-loop-i : goal.invariant-loop-i

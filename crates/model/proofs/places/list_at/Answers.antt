@@ -1,4 +1,3 @@
-use borrow.Author.Rules.{rules}
 use Rattle.model.proofs.PlaceLaws.{read_value}
 use Rattle.model.proofs.places.list_at.Goals as goal
 

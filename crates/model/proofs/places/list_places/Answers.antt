@@ -1,10 +1,7 @@
 use mathlib.Core.Path.{ap, ◌∙◌}
-use Prim.Native.Nat.{◌-◌}
 use Rattle.codec.specs.Answers.{why_step}
 use Rattle.codec.proofs.FormLaws.{stepped, unstepped}
-use Rattle.bounds.specs.Bounds.{no_bounds, bounds_form}
-use borrow.Author.Rules.{rules}
-use Rattle.model.proofs.SurveyLaws.{Placing, place_start, place_step, place_stop, place_done}
+use Rattle.model.proofs.SurveyLaws.{place_start, place_step, place_stop, place_done}
 use Rattle.model.proofs.places.list_places.Goals as goal
 
 pub loop-i-init : goal.loop-i-init

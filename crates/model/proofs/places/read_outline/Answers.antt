@@ -8,7 +8,6 @@ use Rattle.model.specs.Models.{model_form}
 use Rattle.model.proofs.ModelSize.{found_head}
 use Rattle.model.proofs.ReadLaws.{first_fault, bytes_over, whole_listed, outline_refuses, outline_gives}
 use Rattle.model.proofs.SurveyLaws.{placed, unplaced}
-use borrow.Author.Rules.{rules}
 use Rattle.model.proofs.places.read_outline.Goals as goal
 
 pub returns-in_default : goal.returns-in_default

@@ -1,8 +1,7 @@
 use mathlib.Core.Path.{ap, ◌∙◌}
 use Rattle.codec.specs.Answers.{why_number, why_step}
-use Rattle.codec.proofs.FormLaws.{asked, unasked, valued, unvalued, after, stops, stepped, unstepped, finished, refusing, giving} 
+use Rattle.codec.proofs.FormLaws.{asked, unasked, valued, unvalued, after, stops, stepped, unstepped, finished, refusing, giving}
 use Rattle.model.specs.Models.{edge_form}
-use borrow.Author.Rules.{rules}
 use Rattle.model.proofs.reader.read_edge.Goals as goal
 
 pub returns-in_default : goal.returns-in_default

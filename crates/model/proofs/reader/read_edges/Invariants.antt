@@ -1,11 +1,7 @@
-use mathlib.Core.Path.{ap, ◌∙◌}
 use Prim.Native.Nat.{◌-◌}
 use lib.ListN.{drop}
-use Rattle.codec.specs.Answers.{why_step}
-use Rattle.codec.proofs.ArrayLaws.{Filling, fill_start, fill_step, fill_stop, fill_done}
-use Rattle.codec.proofs.FormLaws.{stepped, unstepped, refusing, giving, blank_beside}
+use Rattle.codec.proofs.ArrayLaws.{Filling}
 use Rattle.model.specs.Models.{no_edge, edge_form}
-use borrow.Author.Rules.{rules}
 use Rattle.model.proofs.reader.read_edges.Given as goal
 
 abbrev pub invariant-loop-i : goal.invariant-loop-i

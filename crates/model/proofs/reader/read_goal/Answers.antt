@@ -1,8 +1,7 @@
 use mathlib.Core.Path.{ap, ◌∙◌}
 use Rattle.codec.specs.Answers.{why_number, why_step}
-use Rattle.codec.proofs.FormLaws.{asked, unasked, valued, unvalued, after, stops, stepped, unstepped, finished} 
+use Rattle.codec.proofs.FormLaws.{asked, unasked, valued, unvalued, after, stops, stepped, unstepped, finished}
 use Rattle.model.specs.Models.{goal_form}
-use borrow.Author.Rules.{rules}
 use Rattle.model.proofs.SurveyLaws.{refusing_goal, giving_goal}
 use Rattle.model.proofs.reader.read_goal.Goals as goal
 

@@ -3,7 +3,6 @@ use Rattle.codec.specs.Answers.{why_number}
 use Rattle.codec.proofs.FormLaws.{asked, unasked, valued, unvalued, finished, refusing, giving}
 use Rattle.model.specs.Models.{head_form}
 use Rattle.model.proofs.HeadLaws.{counted_on, uncounted}
-use borrow.Author.Rules.{rules}
 use Rattle.model.proofs.reader.read_head.Goals as goal
 
 pub returns-in_default : goal.returns-in_default

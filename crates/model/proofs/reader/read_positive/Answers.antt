@@ -3,7 +3,6 @@ use borrow.Author.Tests.{eq-eqb, ne_eqb}
 use Rattle.codec.specs.declared.Number.{Number}
 use Rattle.codec.specs.Answers.{Inside}
 use Rattle.codec.proofs.FormLaws.{asked, unasked, valued, unvalued, refuses_number, gives_number, faulty, finished}
-use borrow.Author.Rules.{rules}
 use Rattle.model.proofs.reader.read_positive.Goals as goal
 
 pub returns-in_default : goal.returns-in_default

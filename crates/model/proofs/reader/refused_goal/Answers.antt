@@ -1,5 +1,4 @@
 use mathlib.Core.Path.{refl}
-use borrow.Author.Rules.{rules}
 use Rattle.model.proofs.reader.refused_goal.Goals as goal
 
 pub returns : goal.returns

@@ -1,5 +1,4 @@
 use mathlib.Core.Path.{refl}
-use borrow.Author.Rules.{rules}
 use Rattle.model.proofs.reader.refused_model.Goals as goal
 
 pub returns : goal.returns

@@ -1,8 +1,5 @@
 use native.Mathlib.Omega.{arith}
-use Prim.Native.Nat.{◌-◌}
-use lib.ListN.{length}
-use Rattle.codec.proofs.WriteLaws.{Copied, copy_start, copy_more, copy_done}
-use borrow.Author.Rules.{rules}
+use Rattle.codec.proofs.WriteLaws.{copy_start, copy_more, copy_done}
 use Rattle.model.proofs.writer.copy.Goals as goal
 
 pub loop-i-init : goal.loop-i-init

@@ -1,8 +1,6 @@
-use native.Mathlib.Omega.{arith}
 use Prim.Native.Nat.{◌-◌}
 use lib.ListN.{length}
-use Rattle.codec.proofs.WriteLaws.{Copied, copy_start, copy_more, copy_done}
-use borrow.Author.Rules.{rules}
+use Rattle.codec.proofs.WriteLaws.{Copied}
 use Rattle.model.proofs.writer.copy.Given as goal
 
 abbrev pub invariant-loop-i : goal.invariant-loop-i

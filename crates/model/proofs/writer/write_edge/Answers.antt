@@ -2,7 +2,6 @@ use native.Mathlib.Omega.{arith}
 use Rattle.codec.proofs.WriteLaws.{wrote_then, room_first, room_next}
 use Rattle.model.specs.Written.{edge_bytes}
 use Rattle.model.proofs.ModelTrip.{few_sets}
-use borrow.Author.Rules.{rules}
 use Rattle.model.proofs.writer.write_edge.Goals as goal
 
 pub write_number-a-requires : goal.write_number-a-requires

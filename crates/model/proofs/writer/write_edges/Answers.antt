@@ -1,11 +1,9 @@
-use Prim.Native.Nat.{◌-◌, ◌≤◌}
+use Prim.Native.Nat.{◌≤◌}
 use native.Mathlib.Omega.{arith}
 use lib.ListN.{length}
-use Rattle.codec.proofs.WriteLaws.{Storing, store_start, store_room, store_more, store_done, kept_long}
+use Rattle.codec.proofs.WriteLaws.{store_start, store_room, store_more, store_done, kept_long}
 use Rattle.codec.proofs.PackedLaws.{check_each}
 use Rattle.model.specs.Models.{past_edge}
-use Rattle.model.specs.Written.{edge_bytes}
-use borrow.Author.Rules.{rules}
 use Rattle.model.proofs.writer.write_edges.Goals as goal
 
 pub loop-i-init : goal.loop-i-init

@@ -1,11 +1,6 @@
-use Prim.Native.Nat.{◌-◌, ◌≤◌}
-use native.Mathlib.Omega.{arith}
-use lib.ListN.{length}
-use Rattle.codec.proofs.WriteLaws.{Storing, store_start, store_room, store_more, store_done, kept_long}
-use Rattle.codec.proofs.PackedLaws.{check_each}
-use Rattle.model.specs.Models.{past_edge}
+use Prim.Native.Nat.{◌-◌}
+use Rattle.codec.proofs.WriteLaws.{Storing}
 use Rattle.model.specs.Written.{edge_bytes}
-use borrow.Author.Rules.{rules}
 use Rattle.model.proofs.writer.write_edges.Given as goal
 
 abbrev pub invariant-loop-i : goal.invariant-loop-i

@@ -1,6 +1,5 @@
 use native.Mathlib.Omega.{arith}
 use Rattle.codec.proofs.WriteLaws.{wrote_then, room_first, room_next}
-use borrow.Author.Rules.{rules}
 use Rattle.model.proofs.writer.write_goal.Goals as goal
 
 pub write_number-a-requires : goal.write_number-a-requires

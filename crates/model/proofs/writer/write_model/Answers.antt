@@ -1,7 +1,6 @@
 use native.Mathlib.Omega.{arith}
 use Rattle.codec.proofs.WriteLaws.{wrote_then, room_first, room_next}
 use Rattle.model.specs.Written.{model_bytes}
-use borrow.Author.Rules.{rules}
 use Rattle.model.proofs.writer.write_model.Goals as goal
 
 pub write_head-a-requires : goal.write_head-a-requires

@@ -1,10 +1,7 @@
-use Prim.Native.Nat.{◌-◌}
 use native.Mathlib.Omega.{arith}
-use lib.ListN.{length}
 use mir.Facts.{to_z-of_z}
 use Rattle.numbers.proofs.WordLaws.{back}
-use Rattle.numbers.proofs.PlaceLaws.{Copied, copied_start, copied_next, copied_done}
-use borrow.Author.Rules.{rules}
+use Rattle.numbers.proofs.PlaceLaws.{copied_start, copied_next, copied_done}
 use Rattle.numbers.proofs.Vector.ended.Goals as goal
 
 pub loop-j-init : goal.loop-j-init

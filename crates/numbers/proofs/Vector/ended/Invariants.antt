@@ -1,10 +1,6 @@
 use Prim.Native.Nat.{◌-◌}
-use native.Mathlib.Omega.{arith}
 use lib.ListN.{length}
-use mir.Facts.{to_z-of_z}
-use Rattle.numbers.proofs.WordLaws.{back}
-use Rattle.numbers.proofs.PlaceLaws.{Copied, copied_start, copied_next, copied_done}
-use borrow.Author.Rules.{rules}
+use Rattle.numbers.proofs.PlaceLaws.{Copied}
 use Rattle.numbers.proofs.Vector.ended.Given as goal
 
 abbrev pub invariant-loop-j : goal.invariant-loop-j

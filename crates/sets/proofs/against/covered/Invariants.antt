@@ -1,20 +1,9 @@
-use mathlib.Core.Path.{◌≡◌, refl, sym, ◌∙◌, ap}
+use mathlib.Core.Path.{◌≡◌}
 use mathlib.Core.Bool.{true}
-use mathlib.Core.List.{List}
-use Prim.Native.Nat.{◌+◌, ◌*◌, ◌/◌, ◌≤◌, ◌-◌}
-use native.Mathlib.Nat.{le_antisymm}
-use native.Mathlib.Omega.{arith}
-use borrow.Author.Tests.{not-true, not-false}
-use lib.IntN.{ℤ}
+use Prim.Native.Nat.{◌+◌, ◌/◌, ◌≤◌, ◌-◌}
 use lib.ListN.{length}
 use Rattle.numbers.specs.Tests.{every}
-use Rattle.numbers.proofs.Tells.{every_more, every_stop, every_done}
-use Rattle.sets.specs.Rules.{flat, attained, generated}
-use Rattle.sets.proofs.RowLaws.{row_inside, row_few, part_is, part_long}
-use Rattle.sets.proofs.FlatLaws.{part_flat}
-use Rattle.sets.proofs.FallLaws.{each_part, testable_all}
-use Rattle.sets.proofs.Membership.{generated_as, covered_by}
-use borrow.Author.Rules.{rules}
+use Rattle.sets.specs.Rules.{flat, attained}
 use Rattle.sets.proofs.against.covered.Given as goal
 
 abbrev pub invariant-loop-i : goal.invariant-loop-i

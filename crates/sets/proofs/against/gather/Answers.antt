@@ -1,11 +1,9 @@
 use mathlib.Core.Path.{sym, ◌∙◌}
-use Prim.Native.Nat.{◌+◌, ◌≤◌, ◌-◌}
+use Prim.Native.Nat.{◌+◌}
 use native.Mathlib.Omega.{arith}
-use Rattle.sets.specs.Falls.{Gathered}
 use Rattle.sets.proofs.RowLaws.{row_ends}
 use Rattle.sets.proofs.FallLaws.{gathered_skip, gathered_next, gathered_raisable}
 use Rattle.sets.proofs.FallLaws.{ends_early, ends_next}
-use borrow.Author.Rules.{rules}
 use Rattle.sets.proofs.against.gather.Goals as goal
 use Rattle.sets.proofs.against.gather.Goals.{then-used-i+else-from-x, else-used-i}
 
@@ -34,9 +32,9 @@ loop-i-preserved c =
     let l = c.loop-i in (
       omega arith,
       elim c.if-used-i.branch [
-        then-used-i+else-from-x w ↦
-          rw (w.reached-is, w.from-is) (gathered_next _ _ _ l.i _ _ _ _ w.if-used-i.true l.invariant.1 w.take-from.ensures)
-      | else-used-i w ↦ rw (w.reached-is, w.from-is) (gathered_skip _ _ _ l.i _ _ w.if-used-i.false l.invariant.1)
+        | then-used-i+else-from-x w ↦
+            rw (w.reached-is, w.from-is) (gathered_next _ _ _ l.i _ _ _ _ w.if-used-i.true l.invariant.1 w.take-from.ensures)
+        | else-used-i w ↦ rw (w.reached-is, w.from-is) (gathered_skip _ _ _ l.i _ _ w.if-used-i.false l.invariant.1)
       ],
     )
 

@@ -1,12 +1,5 @@
-use mathlib.Core.Path.{sym, ◌∙◌}
-use mathlib.Core.Logic.{⊎_elim}
-use Prim.Native.Nat.{◌+◌, ◌≤◌, ◌-◌}
-use native.Mathlib.Omega.{arith}
+use Prim.Native.Nat.{◌≤◌, ◌-◌}
 use Rattle.sets.specs.Falls.{Gathered}
-use Rattle.sets.proofs.RowLaws.{row_ends}
-use Rattle.sets.proofs.FallLaws.{gathered_skip, gathered_next, gathered_raisable}
-use Rattle.sets.proofs.FallLaws.{ends_early, ends_next}
-use borrow.Author.Rules.{rules}
 use Rattle.sets.proofs.against.gather.Given as goal
 
 abbrev pub invariant-loop-i : goal.invariant-loop-i

@@ -2,13 +2,12 @@ use mathlib.Core.Path.{sym, ◌∙◌}
 use mathlib.Core.List.{List}
 use lib.IntN.{ℤ}
 use lib.ListN.{length}
-use Prim.Native.Nat.{ℕ, ◌+◌, ◌*◌, ◌≤◌, ◌<◌, ◌-◌}
+use Prim.Native.Nat.{ℕ, ◌+◌, ◌*◌, ◌<◌}
 use native.Mathlib.Omega.{arith}
 use Rattle.sets.specs.Falls.{Gathered, Raised, all_used}
 use Rattle.sets.proofs.RowLaws.{row_ends}
 use Rattle.sets.specs.Tests.{part}
 use Rattle.sets.proofs.FallLaws.{used_all, gathered_next, gathered_raisable, ends_early, ends_next}
-use borrow.Author.Rules.{rules}
 use Rattle.sets.proofs.against.gather_all.Goals as goal
 
 pub loop-i-init : goal.loop-i-init

@@ -2,7 +2,6 @@ use mathlib.Core.Path.{sym}
 use native.Mathlib.Omega.{arith}
 use Rattle.sets.specs.Falls.{all_used}
 use Rattle.sets.proofs.FallLaws.{blank_long, gathered_blank, ends_generated}
-use borrow.Author.Rules.{rules}
 use Rattle.sets.proofs.against.generates.Goals as goal
 
 pub slice_bounds-gather_all-end : goal.slice_bounds-gather_all-end
@@ -10,9 +9,9 @@ slice_bounds-gather_all-end c = sym (blank_long _ _ c.requires.few)
 
 pub gather_all-j-requires : goal.gather_all-j-requires
 gather_all-j-requires c = let p = c.requires in record {
-      testable = p;
-      gathered = gathered_blank _ _ _ p.few;
-    }
+  testable = p;
+  gathered = gathered_blank _ _ _ p.few;
+}
 
 pub returns : goal.returns
 unfolding all_used

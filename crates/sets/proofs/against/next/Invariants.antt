@@ -1,11 +1,7 @@
 use Prim.Native.Nat.{ℕ, ◌≤◌, ◌<◌, ◌-◌}
-use native.Mathlib.Omega.{arith}
-use borrow.Author.Count.{below_more}
 use lib.ListN.{length}
 use Rattle.numbers.specs.Numbers.{◌≼◌}
 use Rattle.numbers.specs.Places.{entries}
-use Rattle.sets.proofs.FallLaws.{place_short, place_enough}
-use borrow.Author.Rules.{rules}
 use Rattle.sets.proofs.against.next.Given as goal
 
 abbrev pub invariant-loop-j : goal.invariant-loop-j

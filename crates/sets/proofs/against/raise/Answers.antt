@@ -1,4 +1,4 @@
-use mathlib.Core.Path.{◌≡◌, sym, ◌∙◌, ap}
+use mathlib.Core.Path.{sym, ◌∙◌, ap}
 use native.Mathlib.Omega.{arith}
 use lib.ListN.{length}
 use Rattle.numbers.specs.Numbers.{Within}
@@ -11,7 +11,6 @@ use Rattle.numbers.proofs.WordLaws.{back, is_mark_lem}
 use mir.Syntax.{w32}
 use mir.Val.{to_z, of_z}
 use Rattle.sets.proofs.FallLaws.{each_wider, raised_none, raised_lift}
-use borrow.Author.Rules.{rules}
 use Rattle.sets.proofs.against.raise.Goals as goal
 
 pub weight-t-requires : goal.weight-t-requires

@@ -5,7 +5,6 @@ use lib.ListN.{get_or-append}
 use Rattle.numbers.specs.Words.{number}
 use Rattle.numbers.proofs.WordLaws.{back}
 use Rattle.sets.proofs.FallLaws.{blank_long, gathered_blank, falls_nowhere, falls_at}
-use borrow.Author.Rules.{rules}
 use Rattle.sets.proofs.against.short.Goals as goal
 
 pub slice_bounds-gather-end : goal.slice_bounds-gather-end
@@ -13,9 +12,9 @@ slice_bounds-gather-end c = sym (blank_long _ _ c.requires.few)
 
 pub gather-j-requires : goal.gather-j-requires
 gather-j-requires c = let p = c.requires in record {
-      testable = p;
-      gathered = gathered_blank _ _ _ p.few;
-    }
+  testable = p;
+  gathered = gathered_blank _ _ _ p.few;
+}
 
 pub returns-then-j-w : goal.returns-then-j-w
 returns-then-j-w c =

@@ -5,7 +5,6 @@ use lib.IntN.{ℤ}
 use lib.ListN.{length}
 use Rattle.sets.specs.Falls.{Raised}
 use Rattle.sets.proofs.RowLaws.{part_is}
-use borrow.Author.Rules.{rules}
 use Rattle.sets.proofs.against.take.Goals as goal
 
 pub raise-requires : goal.raise-requires

@@ -4,7 +4,6 @@ use borrow.Author.Tests.{not-true, not-false}
 use Rattle.sets.specs.Tests.{words_ok, some_finite}
 use Rattle.numbers.proofs.WordLaws.{is_mark_lem, not_mark}
 use Rattle.sets.proofs.EntryLaws.{is_zero, vector_point, vector_ray, vector_neither}
-use borrow.Author.Rules.{rules}
 use Rattle.sets.proofs.entries.vector_fits.Goals as goal
 
 pub returns-then-last-eq0 : goal.returns-then-last-eq0

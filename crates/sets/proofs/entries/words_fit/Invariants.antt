@@ -1,14 +1,9 @@
-use mathlib.Core.Path.{◌≡◌, refl, sym, ◌∙◌}
+use mathlib.Core.Path.{◌≡◌}
 use mathlib.Core.Bool.{true}
 use Prim.Native.Nat.{◌≤◌, ◌-◌}
-use native.Mathlib.Omega.{arith}
-use borrow.Author.Tests.{not-true, not-false}
 use Rattle.numbers.specs.Tests.{every}
 use Rattle.numbers.specs.Places.{entries}
-use Rattle.numbers.proofs.Tells.{every_more, every_stop, every_done}
-use Rattle.numbers.proofs.WordLaws.{back}
-use Rattle.sets.specs.Tests.{fits, words_ok}
-use borrow.Author.Rules.{rules}
+use Rattle.sets.specs.Tests.{fits}
 use Rattle.sets.proofs.entries.words_fit.Given as goal
 
 abbrev pub invariant-loop-j : goal.invariant-loop-j

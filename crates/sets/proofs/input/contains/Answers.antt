@@ -1,11 +1,7 @@
-use mathlib.Core.Path.{◌≡◌, sym, ◌∙◌}
-use mathlib.Core.Bool.{true}
-use lib.ListN.{length}
+use mathlib.Core.Path.{sym, ◌∙◌}
 use borrow.Author.Tests.{not-true, not-false, eq-eqb, ne_eqb}
-use Rattle.sets.specs.Tests.{clocks_ok, whole_ok, list_ok}
 use Rattle.sets.specs.Rules.{contains_checked}
 use Rattle.sets.proofs.TestLaws.{tells_clocks}
-use borrow.Author.Rules.{rules}
 use Rattle.sets.proofs.input.contains.Goals as goal
 
 pub returns-then-not-clocks : goal.returns-then-not-clocks

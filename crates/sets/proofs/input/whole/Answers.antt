@@ -4,7 +4,6 @@ use native.Mathlib.Numerals.{add-one}
 use native.Mathlib.Omega.{arith}
 use borrow.Author.Tests.{eq-eqb, ne_eqb}
 use Rattle.sets.specs.Tests.{whole_ok}
-use borrow.Author.Rules.{rules}
 use Rattle.sets.proofs.input.whole.Goals as goal
 
 pub overflow_mul-m : goal.overflow_mul-m

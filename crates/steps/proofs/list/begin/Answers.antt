@@ -1,6 +1,5 @@
 use native.Mathlib.Omega.{arith}
 use Rattle.steps.proofs.FrontLaws.{begin_room, begun}
-use borrow.Author.Rules.{rules}
 use Rattle.steps.proofs.list.begin.Goals as goal
 
 pub copy-requires : goal.copy-requires

@@ -5,12 +5,8 @@ use lib.ListN.{replicate}
 use lib.Seq.{length-take-le}
 use Rattle.model.specs.Plain.{bound_by}
 use Rattle.model.proofs.PlainLimits.{bound_plain}
-use Rattle.runs.specs.Rule.{cut}
-use Rattle.runs.specs.Table.{half_of}
-use Rattle.steps.specs.Working.{front, Stepped}
 use Rattle.steps.proofs.FrontLaws.{front_small, front_inside, blank_memory, stepped_moved}
 use Rattle.steps.proofs.Calls.{cut_called, cut_sound, showable}
-use borrow.Author.Rules.{rules}
 use Rattle.steps.proofs.list.cut.Goals as goal
 
 pub overflow_mul-k : goal.overflow_mul-k

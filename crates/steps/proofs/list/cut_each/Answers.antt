@@ -1,5 +1,5 @@
 use mathlib.Core.Path.{◌≡◌, refl}
-use Prim.Native.Nat.{◌+◌, ◌-◌, ◌≤◌}
+use Prim.Native.Nat.{◌+◌}
 use native.Mathlib.Omega.{arith}
 use lib.ListN.{get_or, take, drop}
 use Rattle.codec.proofs.PackedLaws.{check_each}
@@ -8,8 +8,7 @@ use Rattle.model.specs.Plain.{bound_by}
 use Rattle.runs.specs.Rule.{cut, ◌then◌}
 use Rattle.runs.specs.Table.{half_of}
 use Rattle.steps.specs.Working.{front, cut_items}
-use Rattle.steps.proofs.Going.{Going, going_turn, going_next, going_refused, going_done, cut_turn, cut_none}
-use borrow.Author.Rules.{rules}
+use Rattle.steps.proofs.Going.{going_turn, going_next, going_refused, going_done, cut_turn, cut_none}
 use Rattle.steps.proofs.list.cut_each.Goals as goal
 
 pub loop-i-init : goal.loop-i-init

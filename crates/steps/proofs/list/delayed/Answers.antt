@@ -3,11 +3,8 @@ use native.Mathlib.Omega.{arith}
 use lib.IntN.{pos}
 use lib.ListN.{replicate}
 use lib.Seq.{length-take-le}
-use Rattle.runs.specs.Rule.{delayed}
-use Rattle.steps.specs.Working.{front, Stepped}
 use Rattle.steps.proofs.FrontLaws.{front_small, front_inside, blank_memory, stepped_moved}
 use Rattle.steps.proofs.Calls.{delayed_called, delayed_sound, showable}
-use borrow.Author.Rules.{rules}
 use Rattle.steps.proofs.list.delayed.Goals as goal
 
 pub overflow_mul-k : goal.overflow_mul-k

@@ -1,8 +1,6 @@
 use Rattle.model.specs.Plain.{bounds_of}
-use Rattle.runs.specs.Rule.{cut_all, delayed, entering, ◌then◌}
 use Rattle.steps.specs.Working.{front}
-use Rattle.steps.proofs.Going.{Going, going_next, going_refused, going_last, entering_as}
-use borrow.Author.Rules.{rules}
+use Rattle.steps.proofs.Going.{going_next, going_refused, going_last, entering_as}
 use Rattle.steps.proofs.list.entered.Goals as goal
 
 pub returns-in_default : goal.returns-in_default

@@ -3,12 +3,9 @@ use native.Mathlib.Omega.{arith}
 use lib.IntN.{pos}
 use lib.ListN.{replicate}
 use lib.Seq.{length-take-le}
-use Rattle.runs.specs.Rule.{reset_to0}
-use Rattle.steps.specs.Working.{front, Stepped}
 use Rattle.steps.proofs.FrontLaws.{front_small, front_inside, blank_memory, stepped_moved}
 use Rattle.steps.proofs.Calls.{reset_called, reset_sound, showable}
 use Rattle.steps.proofs.Going.{reset_off, reset_on}
-use borrow.Author.Rules.{rules}
 use Rattle.steps.proofs.list.reset.Goals as goal
 
 pub returns-then-bit-ne1 : goal.returns-then-bit-ne1

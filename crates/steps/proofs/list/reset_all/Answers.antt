@@ -1,11 +1,6 @@
-use mathlib.Core.Path.{◌≡◌}
-use Prim.Native.Nat.{◌+◌, ◌-◌, ◌/◌, ◌%◌, ◌≤◌}
 use native.Mathlib.Omega.{arith}
-use Rattle.model.specs.Bytes.{clocks_of}
-use Rattle.runs.specs.Rule.{reset_all, ◌then◌}
-use Rattle.steps.specs.Working.{front, reset_by}
-use Rattle.steps.proofs.Going.{Going, going_turn, going_next, going_refused, going_done, reset_start, reset_turn, reset_none}
-use borrow.Author.Rules.{rules}
+use Rattle.steps.specs.Working.{front}
+use Rattle.steps.proofs.Going.{going_turn, going_next, going_refused, going_done, reset_start, reset_turn, reset_none}
 use Rattle.steps.proofs.list.reset_all.Goals as goal
 
 pub loop-i-init : goal.loop-i-init

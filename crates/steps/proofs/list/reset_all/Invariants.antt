@@ -1,11 +1,8 @@
-use mathlib.Core.Path.{◌≡◌}
-use Prim.Native.Nat.{◌+◌, ◌-◌, ◌/◌, ◌%◌, ◌≤◌}
-use native.Mathlib.Omega.{arith}
+use Prim.Native.Nat.{◌-◌, ◌≤◌}
 use Rattle.model.specs.Bytes.{clocks_of}
-use Rattle.runs.specs.Rule.{reset_all, ◌then◌}
-use Rattle.steps.specs.Working.{front, reset_by}
-use Rattle.steps.proofs.Going.{Going, going_turn, going_next, going_refused, going_done, reset_start, reset_turn, reset_none}
-use borrow.Author.Rules.{rules}
+use Rattle.runs.specs.Rule.{reset_all}
+use Rattle.steps.specs.Working.{front}
+use Rattle.steps.proofs.Going.{Going}
 use Rattle.steps.proofs.list.reset_all.Given as goal
 
 abbrev pub invariant-loop-i : goal.invariant-loop-i

@@ -1,9 +1,8 @@
 use mathlib.Core.Path.{subst}
 use native.Mathlib.Omega.{arith}
 use Rattle.making.specs.declared.Made.{Made}
-use Rattle.steps.specs.Working.{Kept, KeptBy}
+use Rattle.steps.specs.Working.{KeptBy}
 use Rattle.steps.proofs.FrontLaws.{front_small, front_inside, front_roomy, show_made}
-use borrow.Author.Rules.{rules}
 use Rattle.steps.proofs.list.show.Goals as goal
 
 pub returns-in_default : goal.returns-in_default

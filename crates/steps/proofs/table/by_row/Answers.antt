@@ -3,7 +3,6 @@ use lib.ListN.{get_or}
 use mir.Facts.{to_z-of_z}
 use Rattle.steps.specs.Rows.{slot_by}
 use Rattle.steps.proofs.Halving.{rows, past_row, place_small, set_halves}
-use borrow.Author.Rules.{rules}
 use Rattle.steps.proofs.table.by_row.Goals as goal
 
 pub offset_bounds-half-p : goal.offset_bounds-half-p

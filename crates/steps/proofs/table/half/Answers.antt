@@ -3,7 +3,6 @@ use Rattle.numbers.proofs.WordLaws.{back}
 use Rattle.bounds.specs.declared.Kind.TheVariants.{AtMost, AtLeast, DifferAtMost, DifferAtLeast, HalfSpace}
 use Rattle.bounds.proofs.LimitLaws.{fits_as}
 use Rattle.steps.proofs.Halving.{half_as, at_most, at_least, own_half}
-use borrow.Author.Rules.{rules}
 use Rattle.steps.proofs.table.half.Goals as goal
 
 pub by_row-requires : goal.by_row-requires

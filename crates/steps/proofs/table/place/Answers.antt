@@ -1,5 +1,4 @@
 use native.Mathlib.Omega.{arith}
-use borrow.Author.Rules.{rules}
 use Rattle.steps.proofs.table.place.Goals as goal
 
 pub returns-in-Cx : goal.returns-in-Cx

@@ -1,4 +1,3 @@
-use borrow.Author.Rules.{rules}
 use native.Mathlib.Omega.{arith}
 use Rattle.walk.proofs.KeepingLaws.{goes_on, judge_empty, judge_covered, judge_kept, does_as}
 use mir.Facts.{to_z-of_z}

@@ -1,4 +1,3 @@
-use borrow.Author.Rules.{rules}
 use Rattle.walk.proofs.KeepingLaws.{keepable, store_does, store_full}
 use mir.Facts.{to_z-of_z}
 use Rattle.walk.proofs.keeping.store.Goals as goal

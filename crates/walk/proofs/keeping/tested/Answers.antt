@@ -1,4 +1,3 @@
-use borrow.Author.Rules.{rules}
 use Rattle.walk.proofs.KeepingLaws.{tested_meets, tested_not}
 use Rattle.walk.proofs.keeping.tested.Goals as goal
 

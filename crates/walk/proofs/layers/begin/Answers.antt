@@ -1,18 +1,14 @@
-use borrow.Author.Rules.{rules}
 use native.Mathlib.Omega.{arith}
 use mathlib.Core.List.{List}
-use mathlib.Core.Path.{◌≡◌, sym, ap, ◌∙◌}
+use mathlib.Core.Path.{sym, ap, ◌∙◌}
 use Prim.Native.Nat.{suc, ◌+◌, ◌*◌, ◌≤◌}
 use lib.IntN.{ℤ, pos}
-use lib.ListN.{length, get_or, length-replicate}
+use lib.ListN.{length, length-replicate}
 use lib.Seq.{length-take-le}
-use Rattle.runs.specs.Rule.{enter, zeros}
-use Rattle.model.specs.Models.{past_bounds}
 use Rattle.model.specs.Outlines.{model_by}
-use Rattle.model.specs.Plain.{plain}
 use Rattle.walk.specs.declared.Moved.{Moved}
 use Rattle.walk.specs.Control.{ended_by}
-use Rattle.walk.proofs.FormLaws.{Gave, prefix_in}
+use Rattle.walk.proofs.FormLaws.{prefix_in}
 use Rattle.walk.proofs.FollowLaws.{known, invariant_limits}
 use Rattle.walk.proofs.LayerLaws.{finds_as}
 use Rattle.walk.proofs.BeginLaws.{zeros_part, begin_starts, begin_gave, begin_stops, begin_empty, begin_full}

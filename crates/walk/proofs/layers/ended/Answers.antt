@@ -1,4 +1,3 @@
-use borrow.Author.Rules.{rules}
 use Rattle.walk.proofs.layers.ended.Goals as goal
 
 pub returns-in-Going : goal.returns-in-Going

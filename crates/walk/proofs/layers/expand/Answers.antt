@@ -1,9 +1,7 @@
 use native.Mathlib.Omega.{arith}
-use mathlib.Core.List.{List}
-use mathlib.Core.Path.{◌≡◌, refl, sym, ap, ◌∙◌}
-use Prim.Native.Nat.{◌+◌, ◌-◌, ◌≤◌, ◌<◌}
-use lib.IntN.{ℤ}
-use lib.ListN.{length, get_or}
+use mathlib.Core.Path.{refl, sym, ◌∙◌}
+use Prim.Native.Nat.{◌+◌, ◌<◌}
+use lib.ListN.{get_or}
 use Rattle.runs.specs.Rule.{try_edge, expand}
 use Rattle.model.specs.Models.{past_edge}
 use Rattle.model.specs.Outlines.{model_by}
@@ -12,8 +10,7 @@ use Rattle.model.proofs.PlainLimits.{edges_many, edge_at_lem}
 use Rattle.walk.specs.Control.{walk_in, Does}
 use Rattle.walk.proofs.KeepingLaws.{goes_on, stays}
 use Rattle.walk.proofs.FormLaws.{try_stays, does_same}
-use Rattle.walk.proofs.Turns.{Turning, turn_first, turns_on, turns_end, turns_done, ready_on, does_more, not_going}
-use borrow.Author.Rules.{rules}
+use Rattle.walk.proofs.Turns.{turn_first, turns_on, turns_end, turns_done, ready_on, does_more}
 use Rattle.walk.proofs.layers.expand.Goals as goal
 use Rattle.walk.proofs.layers.expand.Goals.{then-source-here, else-source-here}
 
@@ -24,16 +21,15 @@ pub overflow_cast-edges : goal.overflow_cast-edges
 overflow_cast-edges c = omega (arith, c.requires.0.limits.numbers.edges)
 
 pub loop-e-init : goal.loop-e-init
-loop-e-init c =
-    (
-      omega arith,
-      refl,
-      record {
-        grows = stays _ _ c.args.y _ _ (omega arith) c.requires.1;
-        left = unfold expand in turn_first _ c.args.outline.edges _ 0 _
-            (omega (arith, edges_many (model_by c.args.bytes.now c.args.outline) c.requires.0.limits));
-      },
-    )
+loop-e-init c = (
+  omega arith,
+  refl,
+  record {
+    grows = stays _ _ c.args.y _ _ (omega arith) c.requires.1;
+    left = unfold expand in turn_first _ c.args.outline.edges _ 0 _
+        (omega (arith, edges_many (model_by c.args.bytes.now c.args.outline) c.requires.0.limits));
+  },
+)
 
 pub locate-place-requires : goal.locate-place-requires
 locate-place-requires c =
@@ -73,12 +69,11 @@ pub loop-e-smaller : goal.loop-e-smaller
 loop-e-smaller c = omega (arith, c.loop-e-test.true)
 
 pub loop-e-preserved : goal.loop-e-preserved
-loop-e-preserved c =
-    (
-      omega (arith, c.loop-e-test.true),
-      c.if-source-here.auto.area ∙ c.loop-e.invariant.1,
-      turns_on c.loop-e.invariant.2 c.loop-e-test.true (let it : (let a = c.args in Does a.outline.clocks a.room c.loop-e.s.kept (a.y.tried + (c.loop-e.e + 1)) (try_edge (plain (model_by a.bytes.now a.outline)).system a.room a.i c.loop-e.e (walk_in a.outline.clocks c.loop-e.s c.loop-e.area)) c.loop-e.area c.if-source-here.r c.if-source-here.area) = let g = c.loop-e.invariant.2.grows in let h = c.requires.0 in let m = model_by c.args.bytes.now c.args.outline in let inside : c.args.i < c.loop-e.s.kept = omega (arith, c.requires.2, g.more) in let E = get_or m.steps c.loop-e.e past_edge in let here = c.locate-place.ensures.location in elim c.if-source-here.branch [ then-source-here t ↦ does_more (omega (arith, g.few)) (does_same t.r-is t.area-is t.follow-r.ensures) | else-source-here t ↦ does_same t.r-is t.area-is (goes_on (omega (arith, g.few)) (ready_on c.requires.1 c.loop-e.invariant.1 g) (try_stays m c.args.room c.args.i c.loop-e.e c.loop-e.s c.loop-e.area inside E (edge_at_lem m h.limits past_edge _ c.loop-e-test.true) (λ q. t.if-source-here.false (h.sources _ c.loop-e-test.true ∙ q ∙ sym here)))) ] in it) c.in-Going.is,
-    )
+loop-e-preserved c = (
+  omega (arith, c.loop-e-test.true),
+  c.if-source-here.auto.area ∙ c.loop-e.invariant.1,
+  turns_on c.loop-e.invariant.2 c.loop-e-test.true (let it : (let a = c.args in Does a.outline.clocks a.room c.loop-e.s.kept (a.y.tried + (c.loop-e.e + 1)) (try_edge (plain (model_by a.bytes.now a.outline)).system a.room a.i c.loop-e.e (walk_in a.outline.clocks c.loop-e.s c.loop-e.area)) c.loop-e.area c.if-source-here.r c.if-source-here.area) = let g = c.loop-e.invariant.2.grows in let h = c.requires.0 in let m = model_by c.args.bytes.now c.args.outline in let inside : c.args.i < c.loop-e.s.kept = omega (arith, c.requires.2, g.more) in let E = get_or m.steps c.loop-e.e past_edge in let here = c.locate-place.ensures.location in elim c.if-source-here.branch [ then-source-here t ↦ does_more (omega (arith, g.few)) (does_same t.r-is t.area-is t.follow-r.ensures) | else-source-here t ↦ does_same t.r-is t.area-is (goes_on (omega (arith, g.few)) (ready_on c.requires.1 c.loop-e.invariant.1 g) (try_stays m c.args.room c.args.i c.loop-e.e c.loop-e.s c.loop-e.area inside E (edge_at_lem m h.limits past_edge _ c.loop-e-test.true) (λ q. t.if-source-here.false (h.sources _ c.loop-e-test.true ∙ q ∙ sym here)))) ] in it) c.in-Going.is,
+)
 
 pub shape_of-area : goal.shape_of-area
 shape_of-area c = c.loop-e.invariant.1

@@ -1,7 +1,5 @@
-use borrow.Author.Rules.{rules}
 use native.Mathlib.Omega.{arith}
 use mathlib.Core.Path.{refl}
-use Rattle.model.specs.Limits.{EdgeLimits}
 use Rattle.walk.proofs.FollowLaws.{edge_limits, invariant_limits, goal_limits, followed}
 use Rattle.walk.proofs.Turns.{counted}
 use Rattle.walk.proofs.layers.follow.Goals as goal

@@ -1,12 +1,8 @@
-use borrow.Author.Rules.{rules}
 use native.Mathlib.Omega.{arith}
 use Rattle.walk.proofs.KeepingLaws.{does_as}
-use Rattle.walk.proofs.FormLaws.{Gave, prefix_in, place_starts, candidate_gave, candidate_stops}
+use Rattle.walk.proofs.FormLaws.{prefix_in, place_starts, candidate_gave, candidate_stops}
 use mathlib.Core.Path.{sym, ap}
 use lib.Seq.{length-take-le}
-use Rattle.runs.specs.Rule.{following}
-use Rattle.model.specs.Plain.{edge_of, bounds_of}
-use Rattle.area.specs.Records.{state_in}
 use Rattle.walk.specs.Control.{walk_in, aimed, formed_to}
 use Rattle.numbers.proofs.WordLaws.{word_is}
 use Rattle.walk.proofs.layers.form.Goals as goal
@@ -15,13 +11,12 @@ pub locate-place-requires : goal.locate-place-requires
 locate-place-requires c = (c.requires.ready.0.clocks.few, c.requires.ready.0.recorded _ c.requires.ready.1)
 
 pub candidate-made-requires : goal.candidate-made-requires
-candidate-made-requires c =
-    (
-      place_starts _ _ _ _ _ c.requires.ready.0.clocks c.locate-place.ensures
-          (c.requires.ready.0.recorded _ c.requires.ready.1) (omega (arith, c.requires.ready.0.clocks.few)),
-      c.requires.bounds_limits.0,
-      c.requires.bounds_limits.1,
-    )
+candidate-made-requires c = (
+  place_starts _ _ _ _ _ c.requires.ready.0.clocks c.locate-place.ensures
+      (c.requires.ready.0.recorded _ c.requires.ready.1) (omega (arith, c.requires.ready.0.clocks.few)),
+  c.requires.bounds_limits.0,
+  c.requires.bounds_limits.1,
+)
 
 pub returns-in_default : goal.returns-in_default
 returns-in_default c =
@@ -40,13 +35,12 @@ slice_bounds-judge-end c =
     sym (length-take-le _ _ (let h = prefix_in c.requires.ready.0.clocks.few (candidate_gave _ _ _ _ c.locate-place.ensures (c.requires.ready.0.recorded _ c.requires.ready.1) c.args.edge c.args.invariant c.requires.bounds_limits.0 c.requires.bounds_limits.1 _ c.candidate-made.result _ _ c.candidate-made.ensures c.in-Vectors.is) in omega (arith, h)))
 
 pub judge-requires : goal.judge-requires
-judge-requires c =
-    (
-      c.requires.ready.0,
-      record { clocks = c.requires.ready.0.clocks; proper = (candidate_gave _ _ _ _ c.locate-place.ensures (c.requires.ready.0.recorded _ c.requires.ready.1) c.args.edge c.args.invariant c.requires.bounds_limits.0 c.requires.bounds_limits.1 _ c.candidate-made.result _ _ c.candidate-made.ensures c.in-Vectors.is).proper },
-      c.requires.bounds_limits.2,
-      c.requires.ready.3,
-    )
+judge-requires c = (
+  c.requires.ready.0,
+  record { clocks = c.requires.ready.0.clocks; proper = (candidate_gave _ _ _ _ c.locate-place.ensures (c.requires.ready.0.recorded _ c.requires.ready.1) c.args.edge c.args.invariant c.requires.bounds_limits.0 c.requires.bounds_limits.1 _ c.candidate-made.result _ _ c.candidate-made.ensures c.in-Vectors.is).proper },
+  c.requires.bounds_limits.2,
+  c.requires.ready.3,
+)
 
 pub returns : goal.returns
 returns c =

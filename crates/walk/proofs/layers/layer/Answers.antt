@@ -1,29 +1,22 @@
-use borrow.Author.Rules.{rules}
 use native.Mathlib.Omega.{arith}
-use mathlib.Core.Path.{◌≡◌, refl, ◌∙◌}
-use Prim.Native.Nat.{◌*◌, ◌-◌, ◌≤◌}
-use lib.ListN.{length}
-use Rattle.runs.specs.Rule.{expand, layer}
-use Rattle.model.specs.Outlines.{model_by}
-use Rattle.model.specs.Plain.{plain}
+use mathlib.Core.Path.{refl, ◌∙◌}
+use Rattle.runs.specs.Rule.{layer}
 use Rattle.area.proofs.KeepLaws.{states_many}
-use Rattle.walk.specs.Control.{walk_in}
 use Rattle.walk.proofs.KeepingLaws.{stays}
-use Rattle.walk.proofs.Turns.{Turning, turn_first, turns_on, turns_end, turns_done, ready_on, does_more, not_going}
+use Rattle.walk.proofs.Turns.{turn_first, turns_on, turns_end, turns_done, ready_on, does_more}
 use Rattle.walk.proofs.layers.layer.Goals as goal
 
 pub loop-i-init : goal.loop-i-init
-loop-i-init c =
-    (
-      omega arith,
-      c.requires.2,
-      refl,
-      record {
-        grows = stays _ _ c.args.y _ _ c.requires.3 c.requires.1;
-        left = unfold layer in turn_first _ c.args.y.kept _ c.args.b _
-            (omega (arith, states_many c.args.outline.clocks c.args.y.kept c.args.area.now));
-      },
-    )
+loop-i-init c = (
+  omega arith,
+  c.requires.2,
+  refl,
+  record {
+    grows = stays _ _ c.args.y _ _ c.requires.3 c.requires.1;
+    left = unfold layer in turn_first _ c.args.y.kept _ c.args.b _
+        (omega (arith, states_many c.args.outline.clocks c.args.y.kept c.args.area.now));
+  },
+)
 
 pub expand-r-requires : goal.expand-r-requires
 expand-r-requires c =

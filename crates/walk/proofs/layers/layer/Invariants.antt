@@ -1,15 +1,11 @@
-use borrow.Author.Rules.{rules}
-use native.Mathlib.Omega.{arith}
-use mathlib.Core.Path.{◌≡◌, refl, ◌∙◌}
+use mathlib.Core.Path.{◌≡◌}
 use Prim.Native.Nat.{◌*◌, ◌-◌, ◌≤◌}
 use lib.ListN.{length}
 use Rattle.runs.specs.Rule.{expand, layer}
 use Rattle.model.specs.Outlines.{model_by}
 use Rattle.model.specs.Plain.{plain}
-use Rattle.area.proofs.KeepLaws.{states_many}
 use Rattle.walk.specs.Control.{walk_in}
-use Rattle.walk.proofs.KeepingLaws.{stays}
-use Rattle.walk.proofs.Turns.{Turning, turn_first, turns_on, turns_end, turns_done, ready_on, does_more, not_going}
+use Rattle.walk.proofs.Turns.{Turning}
 use Rattle.walk.proofs.layers.layer.Given as goal
 
 abbrev pub invariant-loop-i : goal.invariant-loop-i

@@ -1,32 +1,24 @@
-use borrow.Author.Rules.{rules}
 use native.Mathlib.Omega.{arith}
-use mathlib.Core.Path.{◌≡◌, refl, ◌∙◌}
-use Prim.Native.Nat.{◌-◌, ◌≤◌}
-use lib.ListN.{length}
-use Rattle.runs.specs.Rule.{layers}
-use Rattle.model.specs.Outlines.{model_by}
-use Rattle.model.specs.Plain.{plain}
-use Rattle.walk.specs.Control.{walk_in}
+use mathlib.Core.Path.{refl, ◌∙◌}
 use Rattle.walk.proofs.KeepingLaws.{stays}
-use Rattle.walk.proofs.Turns.{ready_on, not_going}
-use Rattle.walk.proofs.LayerLaws.{Layering, finds_same, layers_first, layering_on, layering_never, layering_ends, layering_open}
+use Rattle.walk.proofs.Turns.{ready_on}
+use Rattle.walk.proofs.LayerLaws.{finds_same, layers_first, layering_on, layering_never, layering_ends, layering_open}
 use Rattle.walk.proofs.layers.layers.Goals as goal
 
 pub overflow_cast-depth : goal.overflow_cast-depth
 overflow_cast-depth c = omega (arith, c.requires.0.limits.numbers.depth)
 
 pub loop-d-init : goal.loop-d-init
-loop-d-init c =
-    (
-      omega arith,
-      refl,
-      record {
-        grows = stays _ _ c.args.y _ _ (omega (arith, c.requires.2)) c.requires.1;
-        inside = omega arith;
-        deep = c.requires.3;
-        left = layers_first _ _ _ _;
-      },
-    )
+loop-d-init c = (
+  omega arith,
+  refl,
+  record {
+    grows = stays _ _ c.args.y _ _ (omega (arith, c.requires.2)) c.requires.1;
+    inside = omega arith;
+    deep = c.requires.3;
+    left = layers_first _ _ _ _;
+  },
+)
 
 pub layer-r-requires : goal.layer-r-requires
 layer-r-requires c =
@@ -74,12 +66,11 @@ loop-d-smaller c =
     omega (arith, c.loop-d-test.true)
 
 pub loop-d-preserved : goal.loop-d-preserved
-loop-d-preserved c =
-    (
-      omega (arith, c.loop-d-test.true),
-      c.layer-r.auto.area ∙ c.loop-d.invariant.1,
-      layering_on c.loop-d.invariant.2 c.loop-d-test.true c.layer-r.ensures c.in-Going.is c.if-next-end.false,
-    )
+loop-d-preserved c = (
+  omega (arith, c.loop-d-test.true),
+  c.layer-r.auto.area ∙ c.loop-d.invariant.1,
+  layering_on c.loop-d.invariant.2 c.loop-d-test.true c.layer-r.ensures c.in-Going.is c.if-next-end.false,
+)
 
 pub shape_of-area : goal.shape_of-area
 shape_of-area c = c.loop-d.invariant.1

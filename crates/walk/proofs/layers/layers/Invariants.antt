@@ -1,15 +1,11 @@
-use borrow.Author.Rules.{rules}
-use native.Mathlib.Omega.{arith}
-use mathlib.Core.Path.{◌≡◌, refl, ◌∙◌}
+use mathlib.Core.Path.{◌≡◌}
 use Prim.Native.Nat.{◌-◌, ◌≤◌}
 use lib.ListN.{length}
 use Rattle.runs.specs.Rule.{layers}
 use Rattle.model.specs.Outlines.{model_by}
 use Rattle.model.specs.Plain.{plain}
 use Rattle.walk.specs.Control.{walk_in}
-use Rattle.walk.proofs.KeepingLaws.{stays}
-use Rattle.walk.proofs.Turns.{ready_on, not_going}
-use Rattle.walk.proofs.LayerLaws.{Layering, finds_same, layers_first, layering_on, layering_never, layering_ends, layering_open}
+use Rattle.walk.proofs.LayerLaws.{Layering}
 use Rattle.walk.proofs.layers.layers.Given as goal
 
 abbrev pub invariant-loop-d : goal.invariant-loop-d

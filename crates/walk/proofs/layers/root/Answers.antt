@@ -1,10 +1,9 @@
-use borrow.Author.Rules.{rules}
 use native.Mathlib.Omega.{arith}
 use mathlib.Core.Path.{refl}
 use Rattle.model.specs.Outlines.{model_by}
 use Rattle.model.specs.Plain.{plain}
 use Rattle.walk.proofs.FollowLaws.{goal_limits, root_did}
-use Rattle.walk.proofs.Turns.{ready_on, not_going}
+use Rattle.walk.proofs.Turns.{ready_on}
 use Rattle.walk.proofs.LayerLaws.{finds_same, root_went, root_deep, root_on, root_ends}
 use Rattle.walk.proofs.layers.root.Goals as goal
 

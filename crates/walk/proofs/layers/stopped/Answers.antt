@@ -1,4 +1,3 @@
-use borrow.Author.Rules.{rules}
 use Rattle.walk.proofs.layers.stopped.Goals as goal
 
 pub returns-in-Vectors : goal.returns-in-Vectors
