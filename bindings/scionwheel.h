@@ -1,5 +1,5 @@
 /*
- * Scionwheel's nine calls for C, on x86-64 Linux. Link target/staticlib/libexports.a, which `rt staticlib exports`
+ * Scionwheel's nine calls for C, on x86-64 Linux. Link crates/exports/out/libexports.a, which `rt lib` in crates/exports
  * writes; of the C library it needs memcpy and memset only. docs/RULES.md says what lists, half-spaces and models are,
  * bindings/example.c shows each kind of call.
  *

@@ -1,5 +1,5 @@
 // Scionwheel's nine calls for Rust, on x86-64 Linux. Take this file in as a module, and link libexports.a, which
-// `rt staticlib exports` writes (bindings/run shows how): #[path = "bindings/scionwheel.rs"] mod scionwheel;
+// `rt lib` in crates/exports writes (bindings/run shows how): #[path = "bindings/scionwheel.rs"] mod scionwheel;
 // docs/RULES.md says what lists, half-spaces and models are, bindings/example.rs shows each kind of call.
 //
 // What the library wants of memory. It checks every number and word itself, but it cannot check memory:
