@@ -18,9 +18,9 @@ TOP_BARE = re.compile(r"^((?:abbrev |unfoldable |pub )*)([^\s(){}\[\];,.«»]+)$
 INNER = re.compile(r"^ +(?:pub |unfoldable |abbrev )*([^\s(){}\[\];,.«»]+)(?: [({].*)? :(?: |$)")
 
 
-# lemmas beside a Rust function of their name, and a lemma that port.py gave the name of a field
+# lemmas beside a Rust function of their name; a lemma that port.py gave the name of a field, and a field beside a definition
 FUNCTIONS = {"has_point", "edge_fits", "list_fits", "put_mid", "report_first"}
-FELL = {"written_read": "written_read_lem"}
+FELL = {"written_read": "written_read_lem", "no-half": "no_entries"}
 
 
 def files(ending):

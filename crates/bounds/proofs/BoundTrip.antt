@@ -62,7 +62,7 @@ module _ (n : ℕ) (small : n ≤ 6) (kind : Kind) where
   plain_there b t e w =
       let fit = not_negative b.k w.least w.most in
       let limit : nat_abs b.k < 1000001 = omega (arith, fit.2) in
-      let same = same_bound (sym e) refl (sym w.no_y) (nonneg b.k w.least) (sym w.no_half_lem) in
+      let same = same_bound (sym e) refl (sym w.no_y) (nonneg b.k w.least) (sym w.no_entries) in
       subst (λ (c : Bound). Finds (plain_form n kind) (bytes_of b.x ++ (bytes_of (nat_abs b.k) ++ t)) (got c t))
       same
       (ask_there b.x w.clock (omega (arith, w.clock)) (ask_there (nat_abs b.k) limit (omega arith) finished))
@@ -77,7 +77,7 @@ module _ (n : ℕ) (small : n ≤ 6) (kind : Kind) where
       let same = same_got k.then.is in
       let fit = small_⊑ (pos k.number) (omega (arith, k.limit)) in
       let limits : PlainLimits n (record { x = x.number; y = 0; k = pos k.number; half = no_half; kind = kind }) =
-      record { clock = x.limit; least = record { le = omega arith }; most = fit.1; no_y = refl; no_half_lem = refl } in
+      record { clock = x.limit; least = record { le = omega arith }; most = fit.1; no_y = refl; no_entries = refl } in
       let bytes : s ≡ bytes_of x.number ++ (bytes_of k.number ++ t) =
       x.stood.whole
       ∙ ap (◌++◌ (bytes_of x.number)) (k.stood.whole ∙ ap (◌++◌ (bytes_of k.number)) same.1) in
@@ -91,7 +91,7 @@ module _ (n : ℕ) (small : n ≤ 6) (kind : Kind) where
   differ_there b t e w =
       let limit : folded b.k < 2000001 = omega (arith, fold_small b.k (abs_small b.k w.least w.most))
       in
-      let same = same_bound (sym e) refl refl (fold_unfold b.k) (sym w.no_half_lem) in
+      let same = same_bound (sym e) refl refl (fold_unfold b.k) (sym w.no_entries) in
       subst
       (λ (c : Bound).
       Finds (differ_form n kind) (bytes_of b.x ++ (bytes_of b.y ++ (bytes_of (folded b.k) ++ t))) (got c t))
@@ -119,7 +119,7 @@ module _ (n : ℕ) (small : n ≤ 6) (kind : Kind) where
       let same = same_got v.then.is in
       let fit = small_⊑ (unfolded v.number) (unfold_small v.number (omega (arith, v.limit))) in
       let limits : DifferLimits n (differ x y v.number) =
-      record { clock = lx; other = ly; differ = eqb-false x y q; least = fit.0; most = fit.1; no_half_lem = refl } in
+      record { clock = lx; other = ly; differ = eqb-false x y q; least = fit.0; most = fit.1; no_entries = refl } in
       let last : u ≡ bytes_of (folded (unfolded v.number)) ++ t =
       v.stood.whole ∙ ap (◌++◌ (bytes_of v.number)) same.1
       ∙ ap (λ (w : ℕ). bytes_of w ++ t) (sym (unfold_fold v.number)) in

@@ -16,7 +16,7 @@ pub record PlainLimits (n : ℕ) (b : Bound) : Type 0 where
   pub least : pos 0 ⊑ b.k
   pub most : b.k ⊑ pos 1000000
   pub no_y : b.y ≡ 0
-  pub no_half_lem : b.half ≡ no_half
+  pub no_entries : b.half ≡ no_half
 
 -- kinds 2 and 3: two clocks below n that differ, and k from −1,000,000 to 1,000,000
 pub record DifferLimits (n : ℕ) (b : Bound) : Type 0 where
@@ -25,7 +25,7 @@ pub record DifferLimits (n : ℕ) (b : Bound) : Type 0 where
   pub differ : ¬ (b.x ≡ b.y)
   pub least : negsuc 999999 ⊑ b.k
   pub most : b.k ⊑ pos 1000000
-  pub no_half_lem : b.half ≡ no_half
+  pub no_entries : b.half ≡ no_half
 
 -- an entry of a half-space: −∞, or from −1,000,000 to 1,000,000
 abbrev pub EntryLimits : ℤ → Type 0

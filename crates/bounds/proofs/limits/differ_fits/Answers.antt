@@ -45,7 +45,7 @@ returns c =
       differ = c.if-b.false;
       least = record { le = omega (zarith, least) };
       most = record { le = omega (zarith, most) };
-      no_half_lem = e;
+      no_entries = e;
     })
-    (λ w. w.no_half_lem)
+    (λ w. w.no_entries)
     (tells_none c.half_fits.ensures)

@@ -36,7 +36,7 @@ returns c =
       least = record { le = omega (zarith, least) };
       most = record { le = omega (zarith, most) };
       no_y = c.if-b-ne0.false;
-      no_half_lem = e;
+      no_entries = e;
     })
-    (λ w. w.no_half_lem)
+    (λ w. w.no_entries)
     (tells_none c.half_fits.ensures)
