@@ -3,8 +3,8 @@ use Rattle.walk.proofs.walk.Goals as goal
 
 pub returns-in_default : goal.returns-in_default
 returns-in_default c =
-    walks_unread _ c.read_outline-r.result.step c.read_outline-r.result.outline _ _ c.read_outline-r.ensures c.in_default.in_default-own.keys2
-    c.why.ensures
+    walks_unread _ c.read_outline-r.result.step c.read_outline-r.result.outline _ _ c.read_outline-r.ensures
+    c.in_default.in_default-own.keys2 c.why.ensures
 
 pub walk_outline-requires : goal.walk_outline-requires
 walk_outline-requires c = c.read_outline-r.ensures.holds _ c.in-At.is

@@ -11,8 +11,9 @@ use Rattle.walk.proofs.layers.layer.Given as goal
 abbrev pub invariant-loop-i : goal.invariant-loop-i
 invariant-loop-i l =
     (l.b ≤ l.i) × (l.i ≤ l.end) × (length l.area ≡ length l.initial.area)
-    × Turning l.outline.clocks l.room l.initial.s.kept (l.i * 64) (expand (plain (model_by l.bytes l.outline)).system l.room) l.end l.i
-    (layer (plain (model_by l.bytes l.outline)).system l.room l.b (walk_in l.outline.clocks l.initial.s l.initial.area)) l.initial.area l.s l.area
+    × (let S = (plain (model_by l.bytes l.outline)).system in
+    Turning l.outline.clocks l.room l.initial.s.kept (l.i * 64) (expand S l.room) l.end l.i
+    (layer S l.room l.b (walk_in l.outline.clocks l.initial.s l.initial.area)) l.initial.area l.s l.area)
 
 abbrev pub decreases-loop-i : goal.decreases-loop-i
 decreases-loop-i l = l.end - l.i

@@ -11,8 +11,9 @@ use Rattle.walk.proofs.layers.layers.Given as goal
 abbrev pub invariant-loop-d : goal.invariant-loop-d
 invariant-loop-d l =
     (l.d ≤ l.depth) × (length l.area ≡ length l.initial.area)
-    × Layering (plain (model_by l.bytes l.outline)).system l.outline.clocks l.room l.initial.s.kept l.depth l.d l.b
-    (layers (plain (model_by l.bytes l.outline)).system l.room l.depth 0 (walk_in l.outline.clocks l.initial.s l.initial.area)) l.initial.area l.s l.area
+    × (let S = (plain (model_by l.bytes l.outline)).system in
+    Layering S l.outline.clocks l.room l.initial.s.kept l.depth l.d l.b
+    (layers S l.room l.depth 0 (walk_in l.outline.clocks l.initial.s l.initial.area)) l.initial.area l.s l.area)
 
 abbrev pub decreases-loop-d : goal.decreases-loop-d
 decreases-loop-d l = l.depth - l.d
