@@ -21,7 +21,7 @@ use Rattle.runs.specs.Rule.{Step, made, stop}
 use Rattle.runs.specs.Shown.{Shows, shown}
 use Rattle.runs.proofs.ProperLists.{Proper}
 use Rattle.steps.specs.Steps.{Listed, meets_by}
-use Rattle.steps.specs.Working.{front, step_by, Memory, Kept, KeptBy, Begun, Stepped}
+use Rattle.steps.specs.Working.{front, step_by, Memory, Kept, KeptBy, Working, Begun, Stepped}
 
 -- ---- how many words
 -- at most 32 vectors over at most 6 clocks are at most 224 words
@@ -46,6 +46,14 @@ module _ (n k : ℕ) (work : List ℤ) (memory : Memory n work) (few : k ≤ 32)
 
   front_count : count n (front n k work) ≡ k
   front_count = div-eq_of_eq-mul_left (zero-lt-suc n) front_long
+
+-- the same of the list that is worked on
+module _ {n k : ℕ} {work : List ℤ} (h : Working n k work) where
+  pub working_small : k * (n + 1) ≤ 224
+  working_small = front_small n k work h.memory h.kept.few
+
+  pub working_inside : k * (n + 1) ≤ length work
+  working_inside = front_inside n k work h.memory h.kept.few
 
 -- an area for a result has room for them
 pub front_roomy : (n k : ℕ) (area : List ℤ) → Roomy n area → k ≤ 32 → k * (n + 1) ≤ length area

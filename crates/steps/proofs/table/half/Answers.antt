@@ -34,22 +34,26 @@ returns-in-AtMost c = let a = c.args in
     let p = c.requires in
     let told = c.in-AtMost.is in
     half_as a.n a.b AtMost told
-    (at_most a.n a.b (fits_as a.n a.b AtMost told p.1) (rw (back c.struct_told-1.given.1.1.0.1) at c.by_row.ensures))
+    (at_most a.n a.b (fits_as a.n a.b AtMost told p.1)
+    (rw (back c.struct_told-1.given.1.1.0.1) at c.by_row.ensures))
 
 pub returns-in-AtLeast : goal.returns-in-AtLeast
 returns-in-AtLeast c = let a = c.args in
     let p = c.requires in
     let told = c.in-AtLeast.is in
     half_as a.n a.b AtLeast told
-    (at_least a.n a.b (fits_as a.n a.b AtLeast told p.1) (rw (back c.struct_told-in-AtLeast-1.given.1.1.0.1) at c.by_row-in-AtLeast.ensures))
+    (at_least a.n a.b (fits_as a.n a.b AtLeast told p.1)
+    (rw (back c.struct_told-in-AtLeast-1.given.1.1.0.1) at c.by_row-in-AtLeast.ensures))
 
 pub returns-in-DifferAtMost : goal.returns-in-DifferAtMost
 returns-in-DifferAtMost c = let a = c.args in
-    half_as a.n a.b DifferAtMost c.in-DifferAtMost.is (rw (back c.struct_told-in-DifferAtMost-1.given.1.1.0.1) at c.by_row-in-DifferAtMost.ensures)
+    half_as a.n a.b DifferAtMost c.in-DifferAtMost.is
+    (rw (back c.struct_told-in-DifferAtMost-1.given.1.1.0.1) at c.by_row-in-DifferAtMost.ensures)
 
 pub returns-in-DifferAtLeast : goal.returns-in-DifferAtLeast
 returns-in-DifferAtLeast c = let a = c.args in
-    half_as a.n a.b DifferAtLeast c.in-DifferAtLeast.is (rw (back c.struct_told-in-DifferAtLeast-1.given.1.1.0.1) at c.by_row-in-DifferAtLeast.ensures)
+    half_as a.n a.b DifferAtLeast c.in-DifferAtLeast.is
+    (rw (back c.struct_told-in-DifferAtLeast-1.given.1.1.0.1) at c.by_row-in-DifferAtLeast.ensures)
 
 pub returns-in-HalfSpace : goal.returns-in-HalfSpace
 returns-in-HalfSpace c = let a = c.args in
