@@ -5,12 +5,17 @@ use Rattle.numbers.proofs.RefusalLaws.{number_range}
 use Rattle.exports.specs.Exported.{minus}
 use Rattle.exports.proofs.NumberLaws.{less_fits, less_is}
 use Rattle.exports.proofs.refused.Goals as goal
+use Rattle.exports.proofs.refused.Goals.{After-number}
+
+-- a refusal's number is small
+small : (c : After-number) → c.number.result ≤ 8
+small c = omega (arith, number_range c.args.e, c.number.ensures)
 
 pub overflow_cast-result : goal.overflow_cast-result
-overflow_cast-result c = record { sfits = omega (arith, (let it : c.number.result ≤ 8 = omega (arith, number_range c.args.e, c.number.ensures) in it)) }
+overflow_cast-result c = record { sfits = omega (arith, small (goal.at.overflow_cast-result c).After-number) }
 
 pub overflow_sub-result : goal.overflow_sub-result
-overflow_sub-result c = less_fits c.number.result (let it : c.number.result ≤ 8 = omega (arith, number_range c.args.e, c.number.ensures) in it)
+overflow_sub-result c = less_fits c.number.result (small (goal.at.overflow_sub-result c).After-number)
 
 pub returns : goal.returns
-returns c = less_is c.number.result (let it : c.number.result ≤ 8 = omega (arith, number_range c.args.e, c.number.ensures) in it) ∙ ap minus c.number.ensures
+returns c = less_is c.number.result (small (goal.at.returns c).After-number) ∙ ap minus c.number.ensures
