@@ -4,4 +4,6 @@ use Rattle.std.specs.Io.KnownBytes.{Keeps}
 use Rattle.console.proofs.read_some.Given as goal
 
 abbrev pub invariant-loop : goal.invariant-loop
-invariant-loop g l = (length l.part ≡ length l.initial.part) × Keeps (g.R.Read.remaining l.initial.input) (g.R.Read.remaining l.input)
+invariant-loop g l =
+    (length l.part ≡ length l.initial.part)
+    × Keeps (g.R.Read.remaining l.initial.input) (g.R.Read.remaining l.input)
