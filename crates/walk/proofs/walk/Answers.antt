@@ -6,9 +6,6 @@ returns-in_default c =
     walks_unread _ c.read_outline-r.result.step c.read_outline-r.result.outline _ _ c.read_outline-r.ensures
     c.in_default.in_default-own.keys2 c.why.ensures
 
-pub walk_outline-requires : goal.walk_outline-requires
-walk_outline-requires c = c.read_outline-r.ensures.holds _ c.in-At.is
-
 pub returns : goal.returns
 returns c =
     walks_read _ _ _ _ _ (outline_value _ c.read_outline-r.result.step _ _ c.read_outline-r.ensures c.in-At.is)

@@ -18,7 +18,7 @@ found : (c : After-begin-v) → let a = c.args in
     Finds a.outline.clocks 0 a.outline.depth (ending_of (model_by a.bytes.now a.outline) a.area.now) a.area.now
     c.begin-v.result c.begin-v.new.area
 found c =
-    found_in (model_by c.args.bytes.now c.args.outline) c.requires.limits _ c.room-room.ensures c.begin-v.ensures
+    found_in _ c.requires.limits _ c.room-room.ensures c.begin-v.ensures
 
 pub returns-then-area-size : goal.returns-then-area-size
 returns-then-area-size c =
@@ -26,16 +26,16 @@ returns-then-area-size c =
 
 pub begin-v-requires : goal.begin-v-requires
 begin-v-requires c =
-    (c.requires, ready (model_by c.args.bytes.now c.args.outline) c.requires.limits _ _ c.room-room.ensures)
+    (c.requires, ready _ c.requires.limits _ _ c.room-room.ensures)
 
 pub returns-in_default : goal.returns-in_default
 returns-in_default c =
     let v = (goal.at.returns-in_default c).After-begin-v in
-    walks_found (model_by c.args.bytes.now c.args.outline) c.requires.limits _ (big v) _ _ (found v)
+    walks_found _ c.requires.limits _ (big v) _ _ (found v)
     c.in_default.not-Refused
 
 pub returns : goal.returns
 returns c =
     let v = (goal.at.returns c).After-begin-v in
-    walks_stopped (model_by c.args.bytes.now c.args.outline) c.requires.limits _ (big v) c.begin-v.result _ _
+    walks_stopped _ c.requires.limits _ (big v) c.begin-v.result _ _
     c.in-Refused.is (found v) _ c.zero.ensures c.begin-v.auto.area

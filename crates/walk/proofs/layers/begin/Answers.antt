@@ -1,9 +1,8 @@
 use native.Mathlib.Omega.{arith}
 use mathlib.Core.List.{List}
 use mathlib.Core.Path.{◌≡◌, sym, ap, ◌∙◌}
-use Prim.Native.Nat.{ℕ, suc, ◌+◌, ◌*◌, ◌≤◌}
-use lib.IntN.{ℤ, pos}
-use lib.ListN.{length, get_or, length-replicate}
+use Prim.Native.Nat.{ℕ, ◌+◌, ◌*◌, ◌≤◌}
+use lib.ListN.{length, get_or}
 use lib.Seq.{length-take-le}
 use Rattle.runs.specs.Rule.{enter, zeros}
 use Rattle.model.specs.Models.{past_bounds}
@@ -16,7 +15,7 @@ use Rattle.walk.specs.Control.{ended_by}
 use Rattle.walk.proofs.FormLaws.{Gave, prefix_in}
 use Rattle.walk.proofs.FollowLaws.{known, invariant_limits}
 use Rattle.walk.proofs.LayerLaws.{finds_as}
-use Rattle.walk.proofs.BeginLaws.{zeros_part, begin_starts, begin_gave, begin_stops, begin_empty, begin_full}
+use Rattle.walk.proofs.BeginLaws.{begin_starts, begin_gave, begin_stops, begin_empty, begin_full}
 use Rattle.walk.proofs.layers.begin.Goals as goal
 use Rattle.walk.proofs.layers.begin.Goals.{In-Vectors}
 
@@ -30,7 +29,7 @@ read {s} {o} h is = known s o h o.initial h.limits.numbers.initial is
 gave : (c : In-Vectors) → let S = (plain (model_by c.args.bytes.now c.args.outline)).system in
     Gave c.args.outline.clocks (enter S S.initial (zeros c.args.outline.clocks)) c.in-Vectors.k c.enter-made.new.out
 gave c =
-    begin_gave (model_by c.args.bytes.now c.args.outline) c.requires.0.limits c.args.room c.list_at-invariant.result
+    begin_gave _ c.requires.0.limits c.args.room c.list_at-invariant.result
     (read c.requires.0 c.list_at-invariant.ensures) _ c.enter-made.result _ _ c.enter-made.ensures c.in-Vectors.is
 
 -- its words lie in the memory of the steps
@@ -41,15 +40,6 @@ fits c = prefix_in c.requires.0.limits.numbers.clocks (gave c)
 inside : (c : In-Vectors) → c.in-Vectors.k * (c.args.outline.clocks + 1) ≤ length c.enter-made.new.out
 inside c = omega (arith, fits c, c.enter-made.auto.out)
 
-pub slice_bounds-enter-end : goal.slice_bounds-enter-end
-slice_bounds-enter-end c =
-    let n = c.args.outline.clocks in
-    omega (
-      arith,
-      ap (λ (l : List ℤ). length l) (zeros_part n c.requires.0.limits.numbers.clocks),
-      length-replicate (suc n) (pos 0),
-    )
-
 pub enter-made-requires : goal.enter-made-requires
 enter-made-requires c =
     let h = c.requires.0 in (
@@ -59,14 +49,14 @@ enter-made-requires c =
 
 pub returns-in_default : goal.returns-in_default
 returns-in_default c =
-    begin_stops (model_by c.args.bytes.now c.args.outline) c.requires.0.limits c.args.room c.list_at-invariant.result
+    begin_stops _ c.requires.0.limits c.args.room c.list_at-invariant.result
     (read c.requires.0 c.list_at-invariant.ensures) _ _ c.enter-made.result _ c.enter-made.ensures
     c.in_default.in_default-own.keys2 (c.ended.ensures ∙ ap (λ (r : Moved). ended_by r 0) c.stopped.ensures)
 
 pub returns-then-k-eq0 : goal.returns-then-k-eq0
 returns-then-k-eq0 c =
     let v = (goal.at.returns-then-k-eq0 c).In-Vectors in
-    begin_empty (model_by c.args.bytes.now c.args.outline) c.requires.0.limits c.args.room c.list_at-invariant.result
+    begin_empty _ c.requires.0.limits c.args.room c.list_at-invariant.result
     (read c.requires.0 c.list_at-invariant.ensures) _ _ _ (gave v) c.requires.1 c.if-k-eq0.true
 
 pub overflow_mul-words : goal.overflow_mul-words
@@ -86,6 +76,6 @@ root-requires c =
 pub returns : goal.returns
 returns c =
     let v = (goal.at.returns c).In-Vectors in
-    finds_as (begin_full (model_by c.args.bytes.now c.args.outline) c.requires.0.limits c.args.room
+    finds_as (begin_full _ c.requires.0.limits c.args.room
     c.list_at-invariant.result (read c.requires.0 c.list_at-invariant.ensures) c.args.area.now _ _ (gave v)
     c.if-k-eq0.false (inside v)) c.root.ensures

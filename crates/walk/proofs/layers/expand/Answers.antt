@@ -52,12 +52,6 @@ remains c e f h =
     (edge_at_lem m o.limits past_edge _ c.loop-e-test.true)
     (λ q. h (o.sources _ c.loop-e-test.true ∙ q ∙ sym c.locate-place.ensures.location))))
 
-pub overflow_cast-n : goal.overflow_cast-n
-overflow_cast-n c = omega (arith, c.requires.0.limits.numbers.clocks)
-
-pub overflow_cast-edges : goal.overflow_cast-edges
-overflow_cast-edges c = omega (arith, c.requires.0.limits.numbers.edges)
-
 pub loop-e-init : goal.loop-e-init
 loop-e-init c = (
   omega arith,
@@ -68,17 +62,6 @@ loop-e-init c = (
         (omega (arith, edges_many (model_by c.args.bytes.now c.args.outline) c.requires.0.limits));
   },
 )
-
-pub locate-place-requires : goal.locate-place-requires
-locate-place-requires c =
-    let g = c.loop-e.invariant.2.grows in
-    (c.requires.0.limits.numbers.clocks, g.recorded _ (omega (arith, c.requires.2, g.more)))
-
-pub offset_bounds-outline-e : goal.offset_bounds-outline-e
-offset_bounds-outline-e c = omega (arith, few (goal.at.offset_bounds-outline-e c).In-loop-e)
-
-pub bounds-outline-e : goal.bounds-outline-e
-bounds-outline-e c = few (goal.at.bounds-outline-e c).In-loop-e
 
 pub follow-r-requires : goal.follow-r-requires
 follow-r-requires c =
@@ -100,9 +83,6 @@ follow-r-requires c =
       e_lt_edges = (c.loop-e-test.true, c.if-source-here.true ∙ c.locate-place.ensures.location);
     }
 
-pub shape_of-area-in_default : goal.shape_of-area-in_default
-shape_of-area-in_default c = c.if-source-here.auto.area ∙ c.loop-e.invariant.1
-
 pub returns-in_default : goal.returns-in_default
 returns-in_default c =
     let x = (goal.at.returns-in_default c).After-locate-place in
@@ -112,12 +92,6 @@ returns-in_default c =
     ] in
     does_more (omega (arith, c.requires.3, few (goal.at.returns-in_default c).In-loop-e))
     (turns_end c.loop-e.invariant.2 c.loop-e-test.true turn c.in_default.not-Going)
-
-pub overflow_add-e : goal.overflow_add-e
-overflow_add-e c = omega (arith, few (goal.at.overflow_add-e c).In-loop-e)
-
-pub loop-e-smaller : goal.loop-e-smaller
-loop-e-smaller c = omega (arith, c.loop-e-test.true)
 
 pub loop-e-preserved : goal.loop-e-preserved
 loop-e-preserved c =
@@ -130,9 +104,6 @@ loop-e-preserved c =
       c.if-source-here.auto.area ∙ c.loop-e.invariant.1,
       turns_on c.loop-e.invariant.2 c.loop-e-test.true turn c.in-Going.is,
     )
-
-pub shape_of-area : goal.shape_of-area
-shape_of-area c = c.loop-e.invariant.1
 
 pub returns : goal.returns
 returns c =

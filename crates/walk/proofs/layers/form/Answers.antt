@@ -25,9 +25,6 @@ gave c =
 fits : (c : In-Vectors) → c.in-Vectors.k * (c.args.n + 1) ≤ 224
 fits c = prefix_in c.requires.ready.0.clocks.few (gave c)
 
-pub locate-place-requires : goal.locate-place-requires
-locate-place-requires c = (c.requires.ready.0.clocks.few, c.requires.ready.0.recorded _ c.requires.ready.1)
-
 pub candidate-made-requires : goal.candidate-made-requires
 candidate-made-requires c = (
   place_starts _ _ _ _ _ c.requires.ready.0.clocks c.locate-place.ensures
