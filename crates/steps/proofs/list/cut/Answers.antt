@@ -1,8 +1,6 @@
-use mathlib.Core.Path.{sym}
 use native.Mathlib.Omega.{arith}
 use lib.IntN.{pos}
 use lib.ListN.{replicate}
-use lib.Seq.{length-take-le}
 use Rattle.model.specs.Plain.{bound_by}
 use Rattle.model.proofs.PlainLimits.{bound_plain}
 use Rattle.runs.specs.Rule.{cut}
@@ -28,13 +26,6 @@ overflow_mul-k c = record { fits = omega (arith, working_small c.requires.0) }
 
 pub slice_bounds-intersect-end : goal.slice_bounds-intersect-end
 slice_bounds-intersect-end c = working_inside c.requires.0
-
-pub slice_bounds-intersect-end-2 : goal.slice_bounds-intersect-end-2
-slice_bounds-intersect-end-2 c = sym (length-take-le _ c.args.work.now (working_inside c.requires.0))
-
-pub slice_bounds-intersect-end-3 : goal.slice_bounds-intersect-end-3
-slice_bounds-intersect-end-3 c = sym (length-take-le _ c.half-words.result
-    (omega (arith, c.half-words.ensures.long, c.requires.0.memory.clocks.few)))
 
 pub show-requires : goal.show-requires
 show-requires c =

@@ -1,4 +1,4 @@
-use mathlib.Core.Path.{◌≡◌, refl}
+use mathlib.Core.Path.{◌≡◌}
 use Prim.Native.Nat.{◌+◌}
 use native.Mathlib.Omega.{arith}
 use lib.ListN.{get_or, take, drop}
@@ -26,10 +26,6 @@ turn c =
     going_turn l.invariant.1 _
     (cut_turn a.n a.count a.items (omega (arith, w.few, w.long)) l.i past_bound c.loop-i-test.true
     (front a.n l.m l.work))
-
-pub loop-i-init : goal.loop-i-init
-loop-i-init c = let h = c.requires.0 in
-    (omega arith, record { working = h; same = refl })
 
 pub cut-answer-requires : goal.cut-answer-requires
 cut-answer-requires c = let w = c.requires.1 in

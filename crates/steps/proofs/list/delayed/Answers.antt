@@ -1,8 +1,6 @@
-use mathlib.Core.Path.{sym}
 use native.Mathlib.Omega.{arith}
 use lib.IntN.{pos}
 use lib.ListN.{replicate}
-use lib.Seq.{length-take-le}
 use Rattle.runs.specs.Rule.{delayed}
 use Rattle.steps.specs.Working.{front, Stepped}
 use Rattle.steps.proofs.FrontLaws.{working_small, working_inside, blank_memory, stepped_moved}
@@ -23,9 +21,6 @@ overflow_mul-k c = record { fits = omega (arith, working_small c.requires) }
 
 pub slice_bounds-delay-end : goal.slice_bounds-delay-end
 slice_bounds-delay-end c = working_inside c.requires
-
-pub slice_bounds-delay-end-2 : goal.slice_bounds-delay-end-2
-slice_bounds-delay-end-2 c = sym (length-take-le _ c.args.work.now (working_inside c.requires))
 
 pub show-requires : goal.show-requires
 show-requires c =

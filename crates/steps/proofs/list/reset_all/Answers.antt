@@ -22,9 +22,6 @@ turn c =
 pub loop-i-init : goal.loop-i-init
 loop-i-init c = (omega arith, reset_start c.args.n c.args.resets c.requires)
 
-pub reset-answer-requires : goal.reset-answer-requires
-reset-answer-requires c = (c.loop-i.invariant.1.working, c.loop-i-test.true)
-
 pub returns-in_default : goal.returns-in_default
 returns-in_default c =
     going_refused c.reset-answer.ensures c.in_default.is _ (turn (goal.at.returns-in_default c).In-loop-i)

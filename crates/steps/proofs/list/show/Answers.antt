@@ -10,9 +10,6 @@ use Rattle.steps.proofs.list.show.Goals.{In-Vectors}
 kept : (c : In-Vectors) → Kept c.args.n c.in-Vectors.k c.args.work.now
 kept c = subst (λ (a : Made). KeptBy c.args.n a c.args.work.now) c.in-Vectors.is c.requires.kept
 
-pub returns-in_default : goal.returns-in_default
-returns-in_default c = rw c.in_default.is
-
 pub overflow_mul-k : goal.overflow_mul-k
 overflow_mul-k c =
     let few = (kept (goal.at.overflow_mul-k c).In-Vectors).few in
