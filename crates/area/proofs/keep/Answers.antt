@@ -1,39 +1,19 @@
 use native.Mathlib.Omega.{arith}
 use mathlib.Core.List.{List}
 use mathlib.Core.Path.{◌≡◌, ap, ◌∙◌}
-use Prim.Native.Nat.{ℕ, ◌+◌, ◌*◌, ◌/◌, ◌≤◌}
+use Prim.Native.Nat.{ℕ, ◌+◌, ◌/◌}
 use native.Mathlib.Numerals.{add-one}
 use lib.ListN.{length}
 use Rattle.algebra.specs.Vectors.{count}
 use Rattle.numbers.proofs.WordLaws.{word_is}
-use Rattle.area.proofs.KeepLaws.{row_room, part_room, keep_law}
+use Rattle.area.proofs.KeepLaws.{part_room, keep_law}
 use mir.Facts.{to_z-of_z}
 use lib.IntN.{ℤ, pos}
 use Rattle.area.proofs.keep.Goals as goal
-use Rattle.area.proofs.keep.Goals.{After-size-size}
-
--- record k lies in the area
-room : (c : After-size-size) → c.args.k * c.size-size.result + c.size-size.result ≤ length c.args.area.now
-room c = row_room _ _ _ c.size-size.ensures c.requires.room
 
 -- the vectors of the list, as the code counts them
 counted : (n : ℕ) (list : List ℤ) → length list / (n + 1) ≡ count n list
 counted n list = ap (λ (w : ℕ). length list / w) (add-one n)
-
-pub overflow_mul-from : goal.overflow_mul-from
-overflow_mul-from c = omega (arith, c.well_formed, room (goal.at.overflow_mul-from c).After-size-size)
-
-pub overflow_add-to : goal.overflow_add-to
-overflow_add-to c = omega (arith, c.well_formed, room (goal.at.overflow_add-to c).After-size-size)
-
-pub offset_bounds-area-from : goal.offset_bounds-area-from
-offset_bounds-area-from c = omega (arith, c.well_formed, room (goal.at.offset_bounds-area-from c).After-size-size)
-
-pub slice_bounds-write-end : goal.slice_bounds-write-end
-slice_bounds-write-end c = omega (arith, room (goal.at.slice_bounds-write-end c).After-size-size)
-
-pub overflow_cast-count : goal.overflow_cast-count
-overflow_cast-count c = record { sfits = omega (arith, counted c.args.n c.args.list.now, c.requires.whole.few) }
 
 pub write-requires : goal.write-requires
 write-requires c =

@@ -31,26 +31,11 @@ few : (c : After-size-size) → let a = c.args in
     count a.n (state_in a.n a.area.now a.i).list * (a.n + 1) ≤ 32 * suc a.n
 few c = few_read c.args.n c.args.i _ c.args.area.now c.size-size.ensures c.requires.1
 
-pub overflow_mul-at : goal.overflow_mul-at
-overflow_mul-at c = omega (arith, c.well_formed, room (goal.at.overflow_mul-at c).After-size-size)
-
-pub offset_bounds-area-at : goal.offset_bounds-area-at
-offset_bounds-area-at c = omega (arith, c.well_formed, room (goal.at.offset_bounds-area-at c).After-size-size)
-
 pub bounds-area-at : goal.bounds-area-at
 bounds-area-at c = omega (arith, room (goal.at.bounds-area-at c).After-size-size)
 
-pub overflow_add-count : goal.overflow_add-count
-overflow_add-count c = omega (arith, c.well_formed, room (goal.at.overflow_add-count c).After-size-size)
-
-pub offset_bounds-area-at-2 : goal.offset_bounds-area-at-2
-offset_bounds-area-at-2 c = omega (arith, c.well_formed, room (goal.at.offset_bounds-area-at-2 c).After-size-size)
-
 pub bounds-area-at-2 : goal.bounds-area-at-2
 bounds-area-at-2 c = omega (arith, room (goal.at.bounds-area-at-2 c).After-size-size)
-
-pub overflow_add-from : goal.overflow_add-from
-overflow_add-from c = omega (arith, c.well_formed, room (goal.at.overflow_add-from c).After-size-size)
 
 pub overflow_cast-vectors : goal.overflow_cast-vectors
 overflow_cast-vectors c =
