@@ -3,7 +3,7 @@ use mathlib.Core.Path.{refl, sym}
 use Prim.Native.Nat.{ℕ, ◌<◌}
 use native.Mathlib.Omega.{arith}
 use lib.ListN.{get_or}
-use lib.Seq.{length-take-le, take_all}
+use lib.Seq.{take_all}
 use mir.Syntax.{w8}
 use mir.Val.{Fits}
 use Rattle.codec.specs.Arrays.{AreBytes}
@@ -19,9 +19,6 @@ pub returns-then-buffer-n : goal.returns-then-buffer-n
 returns-then-buffer-n c =
     reports _ _ _ _ _ _ _ _ c.requires (bytes _ c.type_inv.buffer)
     (sym (take_all c.args.n c.args.buffer.now (omega (arith, c.if-buffer-n.true)))) (omega arith) c.answer.ensures
-
-pub slice_bounds-answer-end-2 : goal.slice_bounds-answer-end-2
-slice_bounds-answer-end-2 c = sym (length-take-le _ _ (omega (arith, c.if-buffer-n.false)))
 
 pub returns : goal.returns
 returns c =
