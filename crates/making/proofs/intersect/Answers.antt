@@ -1,14 +1,25 @@
+use mathlib.Core.List.{List}
+use mathlib.Core.Path.{◌≡◌, refl}
+use Prim.Native.Nat.{ℕ}
 use native.Mathlib.Omega.{arith}
-use lib.IntN.{pos}
+use lib.IntN.{pos, ℤ}
 use lib.ListN.{length-replicate, replicate}
 use Rattle.algebra.specs.Vectors.{vectors}
 use Rattle.algebra.specs.Wanted.{left, right}
+use Rattle.sets.specs.declared.Checked.TheVariants.{Good}
+use Rattle.sets.specs.Demands.{Good as GoodInput}
 use Rattle.sets.proofs.TestLaws.{list_each}
 use Rattle.making.specs.Calls.{intersect_input}
+use Rattle.making.specs.Rules.{intersect_checked}
 use Rattle.making.proofs.Rules.{intersect_found}
 use Rattle.making.proofs.WorkingLists.{intersect_few}
 use Rattle.making.proofs.CallLaws.{zeros_near, few_vectors_lem, half_each, finishable, passed, intersect_ends}
 use Rattle.making.proofs.intersect.Goals as goal
+
+-- the input is good
+good : (n : ℕ) (l h area : List ℤ) → Good ≡ intersect_checked n l h area
+    → GoodInput (intersect_input n l h area)
+good n l h area e = passed (intersect_input n l h area) n (intersect_found n l h area) e refl
 
 pub returns-in_default : goal.returns-in_default
 returns-in_default c =
@@ -18,7 +29,7 @@ returns-in_default c =
 
 pub cut-k-requires : goal.cut-k-requires
 cut-k-requires c =
-    let g = (let s = c.args in passed (intersect_input s.n s.list.now s.half.now s.out.now) s.n (intersect_found s.n s.list.now s.half.now s.out.now) c.intersect-checked.ensures c.in-Good.is) in
+    let g = good _ _ _ _ c.in-Good.ensures in
     record {
       clocks = g.0.0.few;
       few = g.0.1.few;
@@ -31,7 +42,7 @@ cut-k-requires c =
 pub finish-requires : goal.finish-requires
 finish-requires c =
     let s = c.args in
-    let g = (let s = c.args in passed (intersect_input s.n s.list.now s.half.now s.out.now) s.n (intersect_found s.n s.list.now s.half.now s.out.now) c.intersect-checked.ensures c.in-Good.is) in
+    let g = good _ _ _ _ c.in-Good.ensures in
     finishable _ _ _ _ _ c.cut-k.ensures _ (length-replicate 1904 (pos 0)) (zeros_near 1904) g.0.0.few
     (intersect_few s.n (vectors s.n s.list.now) (few_vectors_lem _ _ g.0.1.few)
     (left s.n s.half.now) (right s.n s.half.now)) g.0.3
@@ -39,5 +50,5 @@ finish-requires c =
 pub returns : goal.returns
 returns c =
     let s = c.args in
-    (intersect_ends s.n s.list.now s.half.now s.out.now).made _ c.intersect-checked.ensures
-    c.in-Good.is (replicate 1904 (pos 0)) _ _ c.cut-k.ensures _ _ c.finish.ensures
+    (intersect_ends s.n s.list.now s.half.now s.out.now).made _ c.in-Good.ensures
+    refl (replicate 1904 (pos 0)) _ _ c.cut-k.ensures _ _ c.finish.ensures

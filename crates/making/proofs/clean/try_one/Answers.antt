@@ -1,39 +1,37 @@
-use mathlib.Core.Path.{◌∙◌, ap}
-use Prim.Native.Nat.{◌+◌, ◌*◌}
+use mathlib.Core.Path.{◌∙◌, ap, ◌≡◌}
+use mathlib.Core.List.{List}
+use mathlib.Core.Bool.{Bool}
+use Prim.Native.Nat.{◌+◌, ◌*◌, ℕ, suc, ◌-◌, ◌≤◌, ◌<◌}
 use native.Mathlib.Numerals.{add-one}
-use native.Mathlib.Omega.{arith}
+use lib.IntN.{ℤ}
+use lib.ListN.{length, take, drop}
+use Rattle.numbers.specs.Places.{entries}
+use Rattle.sets.specs.declared.Short.{Short}
+use Rattle.sets.specs.declared.Short.TheVariants.{Nowhere}
+use Rattle.sets.specs.Rules.{flat, attained}
+use Rattle.sets.specs.Falls.{masked, Falls, reach_of}
 use Rattle.sets.proofs.RowLaws.{part_is}
 use Rattle.sets.proofs.FallLaws.{nowhere}
 use Rattle.making.proofs.RangeLaws.{row_room}
-use Rattle.making.proofs.CleanLaws.{short_attained, try_testable, try_drops, try_keeps}
+use Rattle.making.proofs.CleanLaws.{short_attained, try_drops, try_keeps}
 use Rattle.making.proofs.clean.try_one.Goals as goal
 
-pub overflow_mul-at : goal.overflow_mul-at
-overflow_mul-at c = omega (arith, c.well_formed, (row_room c.args.n _ _ _ c.requires.1 c.requires.2))
-
-pub overflow_add-at : goal.overflow_add-at
-overflow_add-at c = omega (arith, c.well_formed, (row_room c.args.n _ _ _ c.requires.1 c.requires.2))
-
-pub offset_bounds-work-at : goal.offset_bounds-work-at
-offset_bounds-work-at c = omega (arith, c.well_formed, (row_room c.args.n _ _ _ c.requires.1 c.requires.2))
-
-pub slice_bounds-short-end : goal.slice_bounds-short-end
-slice_bounds-short-end c = omega (arith, (row_room c.args.n _ _ _ c.requires.1 c.requires.2))
-
-pub short-requires : goal.short-requires
-short-requires c =
-    let p = c.requires in
-    rw (part_is c.args.work.now (c.args.i * (c.args.n + 1)) (c.args.n + 1))
-    (try_testable c.args.n c.args.i c.args.work.now c.args.alive.now p.0 p.1 p.2 p.3)
+-- what the test says of vector i
+tested : (n m : ℕ) (work : List ℤ) (used : List Bool) (i : ℕ) (s : Short) → i < m → m * suc n ≤ length work
+    → let x = take (i * (n + 1) + (n + 1) - i * (n + 1)) (drop (i * (n + 1)) work) in
+    Falls (length x) (reach_of work m used x) (entries x) s
+    → attained (n + 1) m (masked used (flat (n + 1) work)) (flat (n + 1) work i) ≡ nowhere s
+tested n m work used i s l h f =
+    short_attained _ _ work _ i _ s (part_is work (i * (n + 1)) (n + 1)) (row_room n _ _ _ l h) f
 
 pub returns-in_default : goal.returns-in_default
 returns-in_default c =
     let a = c.args in
-    rw (← add-one a.n)
-    (try_keeps _ _ _ a.alive.now a.i ((short_attained _ _ c.args.work.now _ c.args.i _ c.short.result (part_is c.args.work.now (c.args.i * (c.args.n + 1)) (c.args.n + 1)) (row_room c.args.n _ _ _ c.requires.1 c.requires.2) c.short.ensures) ∙ ap nowhere c.in_default.is))
+    rw (← add-one a.n) (try_keeps _ _ _ a.alive.now a.i
+    (tested _ _ a.work.now _ a.i _ c.requires.1 c.requires.2 c.short.ensures ∙ ap nowhere c.in_default.is))
 
 pub returns : goal.returns
 returns c =
     let a = c.args in
-    rw (← add-one a.n)
-    (try_drops _ _ _ a.alive.now a.i ((short_attained _ _ c.args.work.now _ c.args.i _ c.short.result (part_is c.args.work.now (c.args.i * (c.args.n + 1)) (c.args.n + 1)) (row_room c.args.n _ _ _ c.requires.1 c.requires.2) c.short.ensures) ∙ ap nowhere c.in-Nowhere.is))
+    rw (← add-one a.n) (try_drops _ _ _ a.alive.now a.i
+    (tested _ _ a.work.now _ a.i Nowhere c.requires.1 c.requires.2 c.in-Nowhere.ensures))

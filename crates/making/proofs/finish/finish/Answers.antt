@@ -1,67 +1,74 @@
-use mathlib.Core.Bool.{true}
-use mathlib.Core.Path.{◌≡◌, sym, ◌∙◌, ap, subst}
-use Prim.Native.Nat.{suc, ◌*◌, ◌≤◌}
+use mathlib.Core.Bool.{true, Bool, false}
+use mathlib.Core.Path.{◌≡◌, sym, ◌∙◌, ap}
+use mathlib.Core.List.{List, ◌++◌}
+use Prim.Native.Nat.{suc, ◌*◌, ℕ, ◌+◌}
 use native.Mathlib.Numerals.{add-one}
-use native.Mathlib.Omega.{arith}
-use borrow.Author.Tests.{not-true, not-false}
-use lib.ListN.{length, length-append}
-use lib.Seq.{length-take-le, take_at}
+use lib.ListN.{length, take, replicate}
+use lib.Seq.{take_at}
+use lib.IntN.{ℤ}
+use Rattle.numbers.specs.declared.Refusal.TheVariants.{Range}
 use Rattle.algebra.specs.Working.{some_point}
-use Rattle.sets.specs.Rules.{flat}
+use Rattle.sets.specs.Rules.{flat, has_point}
 use Rattle.sorting.specs.Rows.{held}
 use Rattle.making.specs.Clean.{clean_flags}
-use Rattle.making.specs.Finish.{Writable, Writes, alive_ok}
+use Rattle.making.specs.Finish.{Writable, Writes, alive_ok, Finishable, Finishes}
+use Rattle.making.specs.declared.Made.{Made}
+use Rattle.making.specs.declared.Made.TheVariants.{Refused}
 use Rattle.making.proofs.FinishLaws.{point_held, finishes_none, trues_long, cleanable, flags_long, writable}
 use Rattle.making.proofs.FinishLaws.{finishes_range, finishes_written}
 use Rattle.making.proofs.finish.finish.Goals as goal
 
-pub slice_bounds-has_point-end : goal.slice_bounds-has_point-end
-slice_bounds-has_point-end c =
-    rw (add-one c.args.n)
-    (sym (length-take-le (c.args.k * suc c.args.n) c.args.work.now c.requires.whole))
+-- the answer is whether there is a point
+pointed : {n k : ℕ} {work area : List ℤ} {b : Bool} → Finishable n work k area
+    → b ≡ has_point n (take (k * (n + 1)) work) → some_point n (held (suc n) k work) ≡ b
+pointed {n} {k} {work} {area} g e = sym (rw (add-one n) at e ∙ point_held n work k area g)
+
+module _ {n k : ℕ} {work area : List ℤ} {flags : List Bool} (g : Finishable n work k area)
+    (cleaned : flags ≡ clean_flags (suc n) (length (take k (replicate 272 true))) (flat (suc n) work)) where
+  -- the flags that cleaning leaves
+  is : flags ≡ clean_flags (suc n) k (flat (suc n) work)
+  is = cleaned ∙ ap (λ m. clean_flags (suc n) m (flat (suc n) work)) (trues_long k g.few)
+
+  -- they are what is lent of the whole array
+  lent : (rest : List Bool) → take k (flags ++ rest) ≡ flags
+  lent rest = take_at flags rest k (flags_long n work k area g flags is)
+
+  -- whether the vectors that are on are within the limits
+  fine : (rest : List Bool) {b : Bool} → b ≡ alive_ok n (take k (flags ++ rest)) (flat (suc n) work)
+      → alive_ok n flags (flat (suc n) work) ≡ b
+  fine rest e = sym (e ∙ ap (λ a. alive_ok n a (flat (suc n) work)) (lent rest))
+
+  -- beyond the limits
+  beyond : (rest : List Bool) → true ≡ has_point n (take (k * (n + 1)) work)
+      → false ≡ alive_ok n (take k (flags ++ rest)) (flat (suc n) work)
+      → Finishes n (held (suc n) k work) area (Refused Range) area
+  beyond rest p e = finishes_range n work k area g flags is (pointed g p) (fine rest e)
+
+  -- the vectors that are on can be written
+  can_write : (rest : List Bool) → Writable n work (take k (flags ++ rest)) area
+  can_write rest = rw (lent rest) (writable n work k area g flags is)
+
+  -- within the limits, and written
+  within : (rest : List Bool) → true ≡ has_point n (take (k * (n + 1)) work)
+      → true ≡ alive_ok n (take k (flags ++ rest)) (flat (suc n) work)
+      → (made : Made) (after : List ℤ) → Writes n work (take k (flags ++ rest)) area made after
+      → Finishes n (held (suc n) k work) area made after
+  within rest p e made after w =
+      finishes_written n work k area g flags is (pointed g p) (fine rest e) made after (rw (lent rest) at w)
 
 pub returns-then-not-has_point : goal.returns-then-not-has_point
-returns-then-not-has_point c =
-    finishes_none _ _ _ _ c.requires (sym (let it : c.has_point.result ≡ some_point c.args.n (held (suc c.args.n) c.args.k c.args.work.now) = rw (add-one c.args.n) at c.has_point.ensures ∙ point_held _ _ _ _ c.requires in it) ∙ not-true _ c.if-not-has_point.true-raw)
-
-pub slice_bounds-clean-end : goal.slice_bounds-clean-end
-slice_bounds-clean-end c = sym (trues_long c.args.k c.requires.few)
+returns-then-not-has_point c = finishes_none _ _ _ _ c.requires (pointed c.requires c.if-not-has_point.ensures)
 
 pub clean-requires : goal.clean-requires
 clean-requires c = cleanable _ _ _ _ c.requires
 
-pub slice_bounds-alive-end-2 : goal.slice_bounds-alive-end-2
-slice_bounds-alive-end-2 c = rw (length-append c.clean.new.alive) (omega (arith, (flags_long _ _ _ _ c.requires _ (c.clean.ensures ∙ ap (λ m. clean_flags (suc c.args.n) m (flat (suc c.args.n) c.args.work.now)) (trues_long c.args.k c.requires.few)))))
-
-pub slice_bounds-fits-end : goal.slice_bounds-fits-end
-slice_bounds-fits-end c = sym (ap length (take_at c.clean.new.alive _ _ (flags_long _ _ _ _ c.requires _ (c.clean.ensures ∙ ap (λ m. clean_flags (suc c.args.n) m (flat (suc c.args.n) c.args.work.now)) (trues_long c.args.k c.requires.few)))) ∙ (flags_long _ _ _ _ c.requires _ (c.clean.ensures ∙ ap (λ m. clean_flags (suc c.args.n) m (flat (suc c.args.n) c.args.work.now)) (trues_long c.args.k c.requires.few))))
-
-pub fits-requires : goal.fits-requires
-fits-requires c =
-    let e = ap length (take_at c.clean.new.alive _ _ (flags_long _ _ _ _ c.requires _ (c.clean.ensures ∙ ap (λ m. clean_flags (suc c.args.n) m (flat (suc c.args.n) c.args.work.now)) (trues_long c.args.k c.requires.few)))) ∙ (flags_long _ _ _ _ c.requires _ (c.clean.ensures ∙ ap (λ m. clean_flags (suc c.args.n) m (flat (suc c.args.n) c.args.work.now)) (trues_long c.args.k c.requires.few))) in
-    (c.requires.clocks, subst (λ m. m * suc c.args.n ≤ length c.args.work.now) (sym e) c.requires.whole)
-
 pub returns-then-not-fits : goal.returns-then-not-fits
 returns-then-not-fits c =
-    finishes_range _ _ _ _ c.requires _ (c.clean.ensures ∙ ap (λ m. clean_flags (suc c.args.n) m (flat (suc c.args.n) c.args.work.now)) (trues_long c.args.k c.requires.few)) (let it : some_point c.args.n (held (suc c.args.n) c.args.k c.args.work.now) ≡ true = sym (let it : c.has_point.result ≡ some_point c.args.n (held (suc c.args.n) c.args.k c.args.work.now) = rw (add-one c.args.n) at c.has_point.ensures ∙ point_held _ _ _ _ c.requires in it) ∙ not-false _ c.if-not-has_point.false-raw in it)
-    (sym (let e = take_at c.clean.new.alive _ _ (flags_long _ _ _ _ c.requires _ (c.clean.ensures ∙ ap (λ m. clean_flags (suc c.args.n) m (flat (suc c.args.n) c.args.work.now)) (trues_long c.args.k c.requires.few))) in c.fits.ensures ∙ ap (λ a. alive_ok c.args.n a (flat (suc c.args.n) c.args.work.now)) e) ∙ not-true _ c.if-not-fits.true-raw)
-
-pub slice_bounds-alive-end-3 : goal.slice_bounds-alive-end-3
-slice_bounds-alive-end-3 c =
-    rw (length-append c.clean.new.alive) (omega (arith, (flags_long _ _ _ _ c.requires _ (c.clean.ensures ∙ ap (λ m. clean_flags (suc c.args.n) m (flat (suc c.args.n) c.args.work.now)) (trues_long c.args.k c.requires.few)))))
-
-pub slice_bounds-write-end : goal.slice_bounds-write-end
-slice_bounds-write-end c =
-    sym (ap length (take_at c.clean.new.alive _ _ (flags_long _ _ _ _ c.requires _ (c.clean.ensures ∙ ap (λ m. clean_flags (suc c.args.n) m (flat (suc c.args.n) c.args.work.now)) (trues_long c.args.k c.requires.few)))) ∙ (flags_long _ _ _ _ c.requires _ (c.clean.ensures ∙ ap (λ m. clean_flags (suc c.args.n) m (flat (suc c.args.n) c.args.work.now)) (trues_long c.args.k c.requires.few))))
+    beyond c.requires c.clean.ensures _ c.if-not-has_point.ensures c.if-not-fits.ensures
 
 pub write-requires : goal.write-requires
-write-requires c =
-    subst (λ a. Writable c.args.n c.args.work.now a c.args.area.now) (sym (take_at c.clean.new.alive _ _ (flags_long _ _ _ _ c.requires _ (c.clean.ensures ∙ ap (λ m. clean_flags (suc c.args.n) m (flat (suc c.args.n) c.args.work.now)) (trues_long c.args.k c.requires.few)))))
-    (writable _ _ _ _ c.requires _ (c.clean.ensures ∙ ap (λ m. clean_flags (suc c.args.n) m (flat (suc c.args.n) c.args.work.now)) (trues_long c.args.k c.requires.few)))
+write-requires c = can_write c.requires c.clean.ensures _
 
 pub returns : goal.returns
 returns c =
-    finishes_written _ _ _ _ c.requires _ (c.clean.ensures ∙ ap (λ m. clean_flags (suc c.args.n) m (flat (suc c.args.n) c.args.work.now)) (trues_long c.args.k c.requires.few)) (let it : some_point c.args.n (held (suc c.args.n) c.args.k c.args.work.now) ≡ true = sym (let it : c.has_point.result ≡ some_point c.args.n (held (suc c.args.n) c.args.k c.args.work.now) = rw (add-one c.args.n) at c.has_point.ensures ∙ point_held _ _ _ _ c.requires in it) ∙ not-false _ c.if-not-has_point.false-raw in it)
-    (sym (let e = take_at c.clean.new.alive _ _ (flags_long _ _ _ _ c.requires _ (c.clean.ensures ∙ ap (λ m. clean_flags (suc c.args.n) m (flat (suc c.args.n) c.args.work.now)) (trues_long c.args.k c.requires.few))) in c.fits.ensures ∙ ap (λ a. alive_ok c.args.n a (flat (suc c.args.n) c.args.work.now)) e) ∙ not-false _ c.if-not-fits.false-raw) _ _
-    (subst (λ a. Writes c.args.n c.args.work.now a c.args.area.now c.write.result
-    c.write.new.area) (take_at c.clean.new.alive _ _ (flags_long _ _ _ _ c.requires _ (c.clean.ensures ∙ ap (λ m. clean_flags (suc c.args.n) m (flat (suc c.args.n) c.args.work.now)) (trues_long c.args.k c.requires.few)))) c.write.ensures)
+    within c.requires c.clean.ensures _ c.if-not-has_point.ensures c.if-not-fits.ensures _ _ c.write.ensures

@@ -1,75 +1,65 @@
-use mathlib.Core.Path.{refl, sym, ◌∙◌, ap, subst}
-use mathlib.Core.List.{List}
-use Prim.Native.Nat.{◌+◌}
-use native.Mathlib.Numerals.{add-one}
+use mathlib.Core.Path.{subst, ◌≡◌}
+use mathlib.Core.List.{List, map}
+use Prim.Native.Nat.{◌+◌, ℕ, ◌-◌}
 use native.Mathlib.Omega.{arith}
-use lib.ListN.{length}
+use lib.IntN.{ℤ}
+use lib.ListN.{take, drop}
+use Rattle.numbers.specs.Words.{number}
 use Rattle.algebra.specs.Vectors.{Vector, vectors}
 use Rattle.algebra.specs.Wanted.{left, right}
+use Rattle.algebra.specs.Working.{intersect_list}
 use Rattle.sets.specs.Tests.{part}
 use Rattle.sets.proofs.FallLaws.{each_part}
-use Rattle.making.specs.Work.{Sides, Grown}
+use Rattle.making.specs.Work.{Sides, Halved, RoomOf, crossed_list}
+use Rattle.making.specs.Finish.{Cuttable}
 use Rattle.making.proofs.HalfLaws.{crossed_is, left_is, right_is, left_long, right_long, left_words, right_words}
 use Rattle.making.proofs.HalfLaws.{sides_near, crossed_room}
 use Rattle.making.proofs.half.cut.Goals as goal
 
-pub slice_bounds-sides-end-2 : goal.slice_bounds-sides-end-2
-slice_bounds-sides-end-2 c =
-    let a = c.args in
-    sym (ap length (left_is a.n a.half.now c.requires.long) ∙ left_long a.n a.half.now c.requires.long
-    ∙ sym (add-one a.n))
+-- the words of both sides at the vectors of the list, as the code makes them
+module _ {n : ℕ} {list half work ls rs : List ℤ} (p : Cuttable n list half work)
+    (lefts : Sides n (map number (take (n + 1) half)) (vectors n list) ls)
+    (rights : Sides n (map number (take (n + 1 + (n + 1) - (n + 1)) (drop (n + 1) half))) (vectors n list) rs) where
+  left_part : Sides n (map number (part half 0 (n + 1))) (vectors n list) ls
+  left_part = rw (left_is n half p.long) at lefts
 
-pub sides-requires : goal.sides-requires
-sides-requires c =
-    let a = c.args in
-    let p = c.requires in
-    rw (left_is a.n a.half.now p.long) (record {
-      clocks = p.clocks;
-      few = p.few;
-      of_list = p.of_list;
-      long = left_long a.n a.half.now p.long;
-      of_side = each_part a.half.now 0 (a.n + 1) (omega (arith, p.long)) p.of_half;
-      room = refl;
-    })
+  right_part : Sides n (map number (part half (n + 1) (n + 1))) (vectors n list) rs
+  right_part = rw (right_is n half p.long) at rights
 
-pub sides-requires-2 : goal.sides-requires-2
-sides-requires-2 c =
-    let a = c.args in
-    let p = c.requires in
-    rw (right_is a.n a.half.now p.long) (record {
-      clocks = p.clocks;
-      few = p.few;
-      of_list = p.of_list;
-      long = right_long a.n a.half.now p.long;
-      of_side = each_part a.half.now (a.n + 1) (a.n + 1) (omega (arith, p.long)) p.of_half;
-      room = refl;
-    })
+  -- the sides at the vectors of the list
+  left_sides : Sides n (left n half) (vectors n list) ls
+  left_sides = subst (λ (v : Vector). Sides n v (vectors n list) ls) (left_words n half p.long) left_part
 
-pub keep_all-requires : goal.keep_all-requires
-keep_all-requires c =
-    let a = c.args in
-    let p = c.requires in
-    let h = a.half.now in record {
-      halved = record {
-        clocks = p.clocks;
-        few = p.few;
-        near = p.of_list;
-        lefts = (let it : (let a = c.args in Sides a.n (left a.n a.half.now) (vectors a.n a.list.now) c.sides.new.out) = let a = c.args in subst (λ (v : Vector). Sides a.n v (vectors a.n a.list.now) c.sides.new.out) (left_words a.n a.half.now c.requires.long) (rw (left_is a.n a.half.now c.requires.long) at c.sides.ensures) in it).long;
-        rights = (let it : (let a = c.args in Sides a.n (right a.n a.half.now) (vectors a.n a.list.now) c.sides-2.new.out) = let a = c.args in subst (λ (v : Vector). Sides a.n v (vectors a.n a.list.now) c.sides-2.new.out) (right_words a.n a.half.now c.requires.long) (rw (right_is a.n a.half.now c.requires.long) at c.sides-2.ensures) in it).long;
-        of_left =
-            sides_near a.n (part h 0 (a.n + 1)) a.list.now c.sides.new.out (left_long a.n h p.long)
-            (each_part h 0 (a.n + 1) (omega (arith, p.long)) p.of_half) p.of_list
-            (rw (left_words a.n h p.long) (let it : (let a = c.args in Sides a.n (left a.n a.half.now) (vectors a.n a.list.now) c.sides.new.out) = let a = c.args in subst (λ (v : Vector). Sides a.n v (vectors a.n a.list.now) c.sides.new.out) (left_words a.n a.half.now c.requires.long) (rw (left_is a.n a.half.now c.requires.long) at c.sides.ensures) in it));
-        of_right = sides_near a.n (part h (a.n + 1) (a.n + 1)) a.list.now c.sides-2.new.out
-            (right_long a.n h p.long)
-            (each_part h (a.n + 1) (a.n + 1) (omega (arith, p.long)) p.of_half) p.of_list
-            (rw (right_words a.n h p.long) (let it : (let a = c.args in Sides a.n (right a.n a.half.now) (vectors a.n a.list.now) c.sides-2.new.out) = let a = c.args in subst (λ (v : Vector). Sides a.n v (vectors a.n a.list.now) c.sides-2.new.out) (right_words a.n a.half.now c.requires.long) (rw (right_is a.n a.half.now c.requires.long) at c.sides-2.ensures) in it));
-      };
-      room_of = crossed_room a.n _ _ a.list.now _ _ _ p.few p.room (let it : (let a = c.args in Sides a.n (left a.n a.half.now) (vectors a.n a.list.now) c.sides.new.out) = let a = c.args in subst (λ (v : Vector). Sides a.n v (vectors a.n a.list.now) c.sides.new.out) (left_words a.n a.half.now c.requires.long) (rw (left_is a.n a.half.now c.requires.long) at c.sides.ensures) in it) (let it : (let a = c.args in Sides a.n (right a.n a.half.now) (vectors a.n a.list.now) c.sides-2.new.out) = let a = c.args in subst (λ (v : Vector). Sides a.n v (vectors a.n a.list.now) c.sides-2.new.out) (right_words a.n a.half.now c.requires.long) (rw (right_is a.n a.half.now c.requires.long) at c.sides-2.ensures) in it);
-    }
+  right_sides : Sides n (right n half) (vectors n list) rs
+  right_sides = subst (λ (v : Vector). Sides n v (vectors n list) rs) (right_words n half p.long) right_part
+
+  -- they are within limits
+  halved : Halved n list ls rs
+  halved = record {
+    clocks = p.clocks;
+    few = p.few;
+    near = p.of_list;
+    lefts = lefts.long;
+    rights = rights.long;
+    of_left = sides_near n (part half 0 (n + 1)) list ls (left_long n half p.long)
+        (each_part half 0 (n + 1) (omega (arith, p.long)) p.of_half) p.of_list left_part;
+    of_right = sides_near n (part half (n + 1) (n + 1)) list rs (right_long n half p.long)
+        (each_part half (n + 1) (n + 1) (omega (arith, p.long)) p.of_half) p.of_list right_part;
+  }
+
+  -- there is room for what they give
+  roomy : RoomOf n work 0 (crossed_list n ls rs (vectors n list))
+  roomy = crossed_room n _ _ list ls rs work p.few p.room left_sides right_sides
+
+  -- and that is what the half-space gives
+  gives : crossed_list n ls rs (vectors n list) ≡ intersect_list n (left n half) (right n half) (vectors n list)
+  gives = crossed_is n _ _ (vectors n list) ls rs left_sides right_sides
+
+pub keep_all-requires-clause-halved : goal.keep_all-requires-clause-halved
+keep_all-requires-clause-halved c = halved c.requires c.sides.ensures c.sides-2.ensures
+
+pub keep_all-requires-clause-room_of : goal.keep_all-requires-clause-room_of
+keep_all-requires-clause-room_of c = roomy c.requires c.sides.ensures c.sides-2.ensures
 
 pub returns : goal.returns
-returns c =
-    let a = c.args in
-    subst (λ (A : List Vector). Grown a.n a.work.now 0 A c.keep_all.result c.keep_all.new.work)
-    (crossed_is a.n _ _ (vectors a.n a.list.now) _ _ (let it : (let a = c.args in Sides a.n (left a.n a.half.now) (vectors a.n a.list.now) c.sides.new.out) = let a = c.args in subst (λ (v : Vector). Sides a.n v (vectors a.n a.list.now) c.sides.new.out) (left_words a.n a.half.now c.requires.long) (rw (left_is a.n a.half.now c.requires.long) at c.sides.ensures) in it) (let it : (let a = c.args in Sides a.n (right a.n a.half.now) (vectors a.n a.list.now) c.sides-2.new.out) = let a = c.args in subst (λ (v : Vector). Sides a.n v (vectors a.n a.list.now) c.sides-2.new.out) (right_words a.n a.half.now c.requires.long) (rw (right_is a.n a.half.now c.requires.long) at c.sides-2.ensures) in it)) c.keep_all.ensures
+returns c = rw (← gives c.requires c.sides.ensures c.sides-2.ensures) c.keep_all.ensures

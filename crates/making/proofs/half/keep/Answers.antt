@@ -1,15 +1,24 @@
 use mathlib.Core.Path.{subst}
-use mathlib.Core.List.{[], ◌∷◌}
-use Prim.Native.Nat.{◌+◌, ◌*◌}
+use mathlib.Core.List.{[], ◌∷◌, List}
+use Prim.Native.Nat.{◌+◌, ◌*◌, ℕ, ◌-◌, ◌<◌}
 use native.Mathlib.Omega.{arith}
-use Rattle.algebra.specs.Vectors.{Vector, vector, vectors}
+use lib.IntN.{ℤ}
+use lib.ListN.{take, drop}
+use Rattle.algebra.specs.Vectors.{Vector, vector, vectors, count}
 use Rattle.sets.proofs.RowLaws.{part_is}
 use Rattle.sets.proofs.FallLaws.{each_wider, place_short, place_enough}
-use Rattle.making.specs.Work.{Added}
+use Rattle.making.specs.Work.{Added, Pushed}
 use Rattle.making.proofs.BuildLaws.{added_one, row_vector}
-use Rattle.making.proofs.HalfLaws.{counted, inside, row_long, row_near}
-use Rattle.making.proofs.HalfLaws.{keep_none, keep_all, keep_room, keep_rest}
+use Rattle.making.proofs.HalfLaws.{counted, row_long, row_near, keep_none, keep_all, keep_room, keep_rest}
 use Rattle.making.proofs.half.keep.Goals as goal
+
+-- vector i stands behind the others
+stands : (n : ℕ) (work : List ℤ) (k : ℕ) (list : List ℤ) (i : ℕ) (after : List ℤ) → i < count n list
+    → Pushed n work k (take (i * (n + 1) + (n + 1) - i * (n + 1)) (drop (i * (n + 1)) list)) after
+    → Added n work k (vector (vectors n list) i ∷ []) after
+stands n work k list i after b p =
+    subst (λ (v : Vector). Added n work k (v ∷ []) after) (row_vector n list i (counted n list i b))
+    (added_one n work k _ after (rw (part_is list (i * (n + 1)) (n + 1)) at p))
 
 pub returns-then-rs-i : goal.returns-then-rs-i
 returns-then-rs-i c =
@@ -17,40 +26,25 @@ returns-then-rs-i c =
     keep_none a.n a.work.now a.k a.ls.now a.rs.now (vectors a.n a.list.now) a.i
     (place_short _ _ c.t12-1.given c.t15-1.given c.if-rs-i.true)
 
-pub overflow_mul-at : goal.overflow_mul-at
-overflow_mul-at c = omega (arith, c.well_formed, (inside c.args.n c.args.list.now c.args.i c.requires.halved.1))
-
-pub overflow_add-at : goal.overflow_add-at
-overflow_add-at c = omega (arith, c.well_formed, (inside c.args.n c.args.list.now c.args.i c.requires.halved.1))
-
-pub offset_bounds-list-at : goal.offset_bounds-list-at
-offset_bounds-list-at c = omega (arith, c.well_formed, (inside c.args.n c.args.list.now c.args.i c.requires.halved.1))
-
-pub slice_bounds-push-end : goal.slice_bounds-push-end
-slice_bounds-push-end c = omega (arith, (inside c.args.n c.args.list.now c.args.i c.requires.halved.1))
-
 pub push-requires : goal.push-requires
 push-requires c =
     let a = c.args in
-    let w = a.n + 1 in
-    rw (part_is a.list.now (a.i * w) w) (record {
-      clocks = c.requires.halved.0.clocks;
-      long = row_long a.n a.list.now a.i c.requires.halved.1;
-      room = keep_room a.n _ a.k a.ls.now a.rs.now _ a.i (place_enough _ _ c.t12-1.given c.t15-1.given c.if-rs-i.false) c.requires.room_of;
-      near = each_wider (omega arith) (row_near a.n a.list.now a.i c.requires.halved.1 c.requires.halved.0.near);
+    let p = c.requires.halved in
+    let satisfies = place_enough _ _ c.t12-1.given c.t15-1.given c.if-rs-i.false in
+    rw (part_is a.list.now (a.i * (a.n + 1)) (a.n + 1)) (record {
+      clocks = p.0.clocks;
+      long = row_long a.n a.list.now a.i p.1;
+      room = keep_room a.n _ a.k a.ls.now a.rs.now _ a.i satisfies c.requires.room_of;
+      near = each_wider (omega arith) (row_near a.n a.list.now a.i p.1 p.0.near);
     })
 
-pub cross_all-requires : goal.cross_all-requires
-cross_all-requires c =
-    let a = c.args in record {
-      halved = c.requires.halved;
-      room_of = keep_rest a.n a.work.now a.k a.ls.now a.rs.now (vectors a.n a.list.now) a.i
-          (place_enough _ _ c.t12-1.given c.t15-1.given c.if-rs-i.false) c.push.new.work (let it : (let a = c.args in Added a.n a.work.now a.k (vector (vectors a.n a.list.now) a.i ∷ []) c.push.new.work) = let a = c.args in let w = a.n + 1 in subst (λ (v : Vector). Added a.n a.work.now a.k (v ∷ []) c.push.new.work) (row_vector a.n a.list.now a.i (counted a.n a.list.now a.i c.requires.halved.1)) (added_one _ _ _ _ _ (rw (part_is a.list.now (a.i * w) w) at c.push.ensures)) in it).long c.requires.room_of;
-    }
+pub cross_all-requires-clause-room_of : goal.cross_all-requires-clause-room_of
+cross_all-requires-clause-room_of c =
+    let satisfies = place_enough _ _ c.t12-1.given c.t15-1.given c.if-rs-i.false in
+    keep_rest _ _ _ _ _ _ _ satisfies _ c.push.ensures.long c.requires.room_of
 
 pub returns : goal.returns
 returns c =
-    let a = c.args in
-    keep_all a.n a.work.now a.k a.ls.now a.rs.now (vectors a.n a.list.now) a.i
-    (place_enough _ _ c.t12-1.given c.t15-1.given c.if-rs-i.false) _ c.push.new.work _
-    (let it : (let a = c.args in Added a.n a.work.now a.k (vector (vectors a.n a.list.now) a.i ∷ []) c.push.new.work) = let a = c.args in let w = a.n + 1 in subst (λ (v : Vector). Added a.n a.work.now a.k (v ∷ []) c.push.new.work) (row_vector a.n a.list.now a.i (counted a.n a.list.now a.i c.requires.halved.1)) (added_one _ _ _ _ _ (rw (part_is a.list.now (a.i * w) w) at c.push.ensures)) in it) c.cross_all.ensures
+    let satisfies = place_enough _ _ c.t12-1.given c.t15-1.given c.if-rs-i.false in
+    keep_all _ _ _ _ _ _ _ satisfies _ c.push.new.work _
+    (stands _ _ _ _ _ _ c.requires.halved.1 c.push.ensures) c.cross_all.ensures

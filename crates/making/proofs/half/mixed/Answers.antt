@@ -1,59 +1,62 @@
-use mathlib.Core.Path.{◌≡◌, sym, ◌∙◌, ap, subst}
-use mathlib.Core.List.{[], ◌∷◌, ◌++◌}
-use Prim.Native.Nat.{◌+◌}
+use mathlib.Core.Path.{◌≡◌, sym, ◌∙◌, subst}
+use mathlib.Core.List.{[], ◌∷◌, ◌++◌, List, map}
+use Prim.Native.Nat.{◌+◌, ℕ, suc}
 use native.Mathlib.Numerals.{add-one}
 use native.Mathlib.Omega.{arith}
-use lib.ListN.{length, take, drop, length-append}
+use lib.ListN.{length, take, drop, replicate}
 use lib.Seq.{take_at}
+use lib.IntN.{ℤ, pos}
+use mir.Facts.{to_z-of_z}
+use mir.Val.{SFits, to_z, of_z}
+use mir.Syntax.{w32}
 use Rattle.numbers.specs.Words.{number}
 use Rattle.numbers.specs.Places.{Mixed}
-use Rattle.numbers.proofs.NumberLaws.{wider}
-use mir.Facts.{to_z-of_z}
 use Rattle.algebra.specs.Vectors.{Vector}
 use Rattle.sets.proofs.FallLaws.{each_wider}
-use Rattle.making.specs.Work.{Added}
+use Rattle.sorting.specs.Rows.{put}
+use Rattle.making.specs.Work.{Added, Mixable, Pushable, Pushed, mixed_of}
 use Rattle.making.proofs.BuildLaws.{added_one}
-use Rattle.making.proofs.HalfLaws.{mixed_words, mixed_near, copied_part}
+use Rattle.making.proofs.HalfLaws.{mixed_words, mixed_near, copied_part, mixed_long}
 use Rattle.making.proofs.half.mixed.Goals as goal
 
-pub slice_bounds-mix-end : goal.slice_bounds-mix-end
-slice_bounds-mix-end c =
-    add-one c.args.n ∙ sym c.requires.long_g ∙ ap length (sym (copied_part c.args.n c.args.g.now c.copy.new.dst c.requires.clocks c.requires.long_g c.copy.ensures))
+module _ {n k : ℕ} {work g h row out : List ℤ} {l r : ℤ} (p : Mixable n work k g l h r)
+    (fits_l : SFits w32 l) (fits_r : SFits w32 r)
+    (copied : row ≡ put (replicate 7 (pos 0)) 0 (take (n + 1) (drop 0 g)) (n + 1))
+    (mixed : Mixed (take (n + 1) row) (number (to_z w32 (of_z w32 l))) h (number (to_z w32 (of_z w32 r))) out) where
+  -- what stands in the row after mixing
+  mixes : Mixed g (number l) h (number r) out
+  mixes = rw (copied_part n g row p.clocks p.long_g copied, to_z-of_z fits_l, to_z-of_z fits_r) at mixed
 
-pub mix-requires : goal.mix-requires
-mix-requires c =
+  long : length out ≡ suc n
+  long = mixed_long n g h out (number l) (number r) p.long_g p.long_h mixes
+
+  -- the row lent is what mixing made
+  lent : take (n + 1) (out ++ drop (n + 1) row) ≡ out
+  lent = take_at out (drop (n + 1) row) (n + 1) (long ∙ sym (add-one n))
+
+  -- it can be put behind the others
+  pushable : Pushable n work k (take (n + 1) (out ++ drop (n + 1) row))
+  pushable = rw lent (record {
+    clocks = p.clocks;
+    long = long;
+    room = p.room;
+    near = mixed_near n g h out _ _ p.long_g p.long_h mixes p.near_g p.near_h p.of_l p.of_r;
+  })
+
+  -- then the two vectors, weighted, stand there
+  added : (after : List ℤ) → Pushed n work k (take (n + 1) (out ++ drop (n + 1) row)) after
+      → Added n work k (mixed_of n (number l) (map number g) (number r) (map number h) ∷ []) after
+  added after q = subst (λ (v : Vector). Added n work k (v ∷ []) after)
+      (mixed_words n g h out _ _ p.long_g p.long_h mixes) (added_one n work k out after (rw lent at q))
+
+pub mix-requires-clause-each : goal.mix-requires-clause-each
+mix-requires-clause-each c =
     let p = c.requires in
-    rw ((copied_part c.args.n c.args.g.now c.copy.new.dst c.requires.clocks c.requires.long_g c.copy.ensures), to_z-of_z c.ranges.l, to_z-of_z c.ranges.r) record {
-      h_len = p.long_h ∙ sym p.long_g;
-      each = (each_wider (omega arith) p.near_g, each_wider (omega arith) p.near_h);
-      within = (wider (omega arith) p.of_l, wider (omega arith) p.of_r);
-    }
-
-pub slice_bounds-row-end-2 : goal.slice_bounds-row-end-2
-slice_bounds-row-end-2 c =
-    omega (
-      arith,
-      (let it : length c.mix.new.out ≡ c.args.n + 1 = (let it : (let s = c.args in Mixed s.g.now (number s.l) s.h.now (number s.r) c.mix.new.out) = rw ((copied_part c.args.n c.args.g.now c.copy.new.dst c.requires.clocks c.requires.long_g c.copy.ensures), to_z-of_z c.ranges.l, to_z-of_z c.ranges.r) at c.mix.ensures in it).long ∙ c.requires.long_g ∙ sym (add-one c.args.n) in it),
-      length-append c.mix.new.out
-          (drop (c.args.n + 1)
-          c.copy.new.dst),
-    )
-
-pub slice_bounds-push-end : goal.slice_bounds-push-end
-slice_bounds-push-end c = sym (ap length (let it : (let n = c.args.n in take (n + 1) (c.mix.new.out ++ drop (n + 1) c.copy.new.dst) ≡ c.mix.new.out) = take_at c.mix.new.out _ _ (let it : length c.mix.new.out ≡ c.args.n + 1 = (let it : (let s = c.args in Mixed s.g.now (number s.l) s.h.now (number s.r) c.mix.new.out) = rw ((copied_part c.args.n c.args.g.now c.copy.new.dst c.requires.clocks c.requires.long_g c.copy.ensures), to_z-of_z c.ranges.l, to_z-of_z c.ranges.r) at c.mix.ensures in it).long ∙ c.requires.long_g ∙ sym (add-one c.args.n) in it) in it) ∙ (let it : length c.mix.new.out ≡ c.args.n + 1 = (let it : (let s = c.args in Mixed s.g.now (number s.l) s.h.now (number s.r) c.mix.new.out) = rw ((copied_part c.args.n c.args.g.now c.copy.new.dst c.requires.clocks c.requires.long_g c.copy.ensures), to_z-of_z c.ranges.l, to_z-of_z c.ranges.r) at c.mix.ensures in it).long ∙ c.requires.long_g ∙ sym (add-one c.args.n) in it))
+    rw (copied_part c.args.n c.args.g.now c.copy.new.dst p.clocks p.long_g c.copy.ensures)
+    (each_wider (omega arith) p.near_g, each_wider (omega arith) p.near_h)
 
 pub push-requires : goal.push-requires
-push-requires c =
-    let p = c.requires in
-    rw (let it : (let n = c.args.n in take (n + 1) (c.mix.new.out ++ drop (n + 1) c.copy.new.dst) ≡ c.mix.new.out) = take_at c.mix.new.out _ _ (let it : length c.mix.new.out ≡ c.args.n + 1 = (let it : (let s = c.args in Mixed s.g.now (number s.l) s.h.now (number s.r) c.mix.new.out) = rw ((copied_part c.args.n c.args.g.now c.copy.new.dst c.requires.clocks c.requires.long_g c.copy.ensures), to_z-of_z c.ranges.l, to_z-of_z c.ranges.r) at c.mix.ensures in it).long ∙ c.requires.long_g ∙ sym (add-one c.args.n) in it) in it) (record {
-      clocks = p.clocks;
-      long = (let it : length c.mix.new.out ≡ c.args.n + 1 = (let it : (let s = c.args in Mixed s.g.now (number s.l) s.h.now (number s.r) c.mix.new.out) = rw ((copied_part c.args.n c.args.g.now c.copy.new.dst c.requires.clocks c.requires.long_g c.copy.ensures), to_z-of_z c.ranges.l, to_z-of_z c.ranges.r) at c.mix.ensures in it).long ∙ c.requires.long_g ∙ sym (add-one c.args.n) in it) ∙ add-one c.args.n;
-      room = p.room;
-      near = mixed_near c.args.n _ _ _ _ _ p.long_g p.long_h (let it : (let s = c.args in Mixed s.g.now (number s.l) s.h.now (number s.r) c.mix.new.out) = rw ((copied_part c.args.n c.args.g.now c.copy.new.dst c.requires.clocks c.requires.long_g c.copy.ensures), to_z-of_z c.ranges.l, to_z-of_z c.ranges.r) at c.mix.ensures in it) p.near_g p.near_h p.of_l p.of_r;
-    })
+push-requires c = pushable c.requires c.ranges.l c.ranges.r c.copy.ensures c.mix.ensures
 
 pub returns : goal.returns
-returns c =
-    subst (λ (v : Vector). Added c.args.n c.args.work.now c.args.k (v ∷ []) c.push.new.work)
-    (mixed_words c.args.n _ _ _ _ _ c.requires.long_g c.requires.long_h (let it : (let s = c.args in Mixed s.g.now (number s.l) s.h.now (number s.r) c.mix.new.out) = rw ((copied_part c.args.n c.args.g.now c.copy.new.dst c.requires.clocks c.requires.long_g c.copy.ensures), to_z-of_z c.ranges.l, to_z-of_z c.ranges.r) at c.mix.ensures in it))
-    (added_one _ _ _ c.mix.new.out _ (rw (let it : (let n = c.args.n in take (n + 1) (c.mix.new.out ++ drop (n + 1) c.copy.new.dst) ≡ c.mix.new.out) = take_at c.mix.new.out _ _ (let it : length c.mix.new.out ≡ c.args.n + 1 = (let it : (let s = c.args in Mixed s.g.now (number s.l) s.h.now (number s.r) c.mix.new.out) = rw ((copied_part c.args.n c.args.g.now c.copy.new.dst c.requires.clocks c.requires.long_g c.copy.ensures), to_z-of_z c.ranges.l, to_z-of_z c.ranges.r) at c.mix.ensures in it).long ∙ c.requires.long_g ∙ sym (add-one c.args.n) in it) in it) at c.push.ensures))
+returns c = added c.requires c.ranges.l c.ranges.r c.copy.ensures c.mix.ensures _ c.push.ensures

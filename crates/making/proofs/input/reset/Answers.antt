@@ -1,11 +1,11 @@
-use mathlib.Core.Path.{◌≡◌, sym, ◌∙◌, ap}
+use mathlib.Core.Path.{◌∙◌, ap}
 use mathlib.Core.Bool.{◌&&◌}
+use borrow.Author.Tests.{lt-ltb, le-ltb}
 use lib.Dec.{ltb}
-use borrow.Author.Tests.{not-true, not-false, lt-ltb, le-ltb}
 use mir.Facts.{to_z-of_z}
+use Rattle.numbers.specs.Words.{number}
 use Rattle.sets.specs.declared.Checked.{Checked}
 use Rattle.sets.specs.Tests.{tight}
-use Rattle.numbers.specs.Words.{number}
 use Rattle.making.specs.Rules.{arg_checked, reset_checked}
 use Rattle.making.proofs.InputLaws.{arg_passed}
 use Rattle.making.proofs.input.reset.Goals as goal
@@ -20,14 +20,16 @@ returns-in_default c =
 
 pub returns-then-n-clock : goal.returns-then-n-clock
 unfolding reset_checked
-returns-then-n-clock c = rw ((sym c.delay-checked.ensures ∙ c.in-Good.is), le-ltb _ _ c.if-n-clock.true)
+returns-then-n-clock c = rw (← c.in-Good.ensures, le-ltb _ _ c.if-n-clock.true)
 
 pub returns-then-not-word_fits : goal.returns-then-not-word_fits
 unfolding reset_checked
 returns-then-not-word_fits c =
-    rw ((sym c.delay-checked.ensures ∙ c.in-Good.is), lt-ltb _ _ c.if-n-clock.false, sym (let it : c.word_fits.result ≡ tight (number c.args.value) = let f = c.ranges.value in rw (to_z-of_z f) at c.word_fits.ensures in it) ∙ not-true _ c.if-not-word_fits.true-raw)
+    let unfit = rw (to_z-of_z c.ranges.value) at c.if-not-word_fits.ensures in
+    rw (← c.in-Good.ensures, lt-ltb _ _ c.if-n-clock.false, ← unfit)
 
 pub returns : goal.returns
 unfolding reset_checked
 returns c =
-    rw ((sym c.delay-checked.ensures ∙ c.in-Good.is), lt-ltb _ _ c.if-n-clock.false, sym (let it : c.word_fits.result ≡ tight (number c.args.value) = let f = c.ranges.value in rw (to_z-of_z f) at c.word_fits.ensures in it) ∙ not-false _ c.if-not-word_fits.false-raw)
+    let fit = rw (to_z-of_z c.ranges.value) at c.if-not-word_fits.ensures in
+    rw (← c.in-Good.ensures, lt-ltb _ _ c.if-n-clock.false, ← fit)

@@ -1,56 +1,42 @@
-use mathlib.Core.Path.{refl, sym, ◌∙◌}
-use Prim.Native.Nat.{◌+◌, ◌*◌}
+use mathlib.Core.Path.{sym, ◌∙◌, ◌≡◌}
+use mathlib.Core.Bool.{Bool, true, false, cond}
+use mathlib.Core.List.{List}
+use Prim.Native.Nat.{◌+◌, ◌*◌, ℕ, ◌-◌}
 use native.Mathlib.Nat.{le_antisymm}
 use native.Mathlib.Numerals.{add-one}
 use native.Mathlib.Omega.{arith}
-use borrow.Author.Tests.{not-true, not-false}
+use lib.IntN.{ℤ}
+use lib.ListN.{get_or, take, drop}
+use Rattle.numbers.specs.Places.{entries}
 use Rattle.numbers.proofs.Tells.{every_more, every_stop, every_done}
-use Rattle.sets.proofs.RowLaws.{part_is, part_long}
-use Rattle.making.specs.Finish.{alive_ok}
-use Rattle.making.proofs.RangeLaws.{row_room, row_test, off_passes, on_is}
+use Rattle.sets.specs.Rules.{flat}
+use Rattle.making.specs.Finish.{alive_ok, row_ok}
+use Rattle.making.proofs.RangeLaws.{row_test, off_passes, on_is}
 use Rattle.making.proofs.range.fits.Goals as goal
 use Rattle.making.proofs.range.fits.Goals.{then-alive-i+else-not-row_fits, else-alive-i}
 
-pub loop-i-init : goal.loop-i-init
-loop-i-init c = (omega arith, refl)
-
-pub overflow_mul-at : goal.overflow_mul-at
-overflow_mul-at c = omega (arith, c.well_formed, (row_room c.args.n _ _ _ c.loop-i-test.true c.requires.1))
-
-pub overflow_add-at : goal.overflow_add-at
-overflow_add-at c = omega (arith, c.well_formed, (row_room c.args.n _ _ _ c.loop-i-test.true c.requires.1))
-
-pub offset_bounds-work-at : goal.offset_bounds-work-at
-offset_bounds-work-at c = omega (arith, c.well_formed, (row_room c.args.n _ _ _ c.loop-i-test.true c.requires.1))
-
-pub slice_bounds-row_fits-end : goal.slice_bounds-row_fits-end
-slice_bounds-row_fits-end c = omega (arith, (row_room c.args.n _ _ _ c.loop-i-test.true c.requires.1))
-
-pub row_fits-requires : goal.row_fits-requires
-row_fits-requires c =
-    let a = c.args in
-    let at = c.loop-i.i * (a.n + 1) in
-    rw (part_is a.work.now at (a.n + 1))
-    (omega (arith, part_long a.work.now at (a.n + 1) (row_room c.args.n _ _ _ c.loop-i-test.true c.requires.1)))
+-- what the test of vector i says, if it is on
+tested : (n : ℕ) (work : List ℤ) (alive : List Bool) (i : ℕ) {b : Bool} → get_or alive i false ≡ true
+    → b ≡ row_ok n (entries (take (i * (n + 1) + (n + 1) - i * (n + 1)) (drop (i * (n + 1)) work)))
+    → cond (get_or alive i false) (row_ok n (flat (n + 1) work i)) true ≡ b
+tested n work alive i on e = on_is _ _ on ∙ sym (row_test n work i) ∙ sym e
 
 pub returns-then-not-row_fits : goal.returns-then-not-row_fits
 unfolding alive_ok
 returns-then-not-row_fits c =
-    rw (← add-one c.args.n)
-    (sym (every_stop _ _ c.loop-i.i c.loop-i-test.true
-    ((let a = c.args in on_is _ _ c.if-alive-i.true ∙ sym (row_test a.n a.work.now c.loop-i.i) ∙ sym c.row_fits.ensures) ∙ not-true _ c.if-not-row_fits.true-raw)))
+    let a = c.args in
+    rw (← add-one a.n) (sym (every_stop _ _ c.loop-i.i c.loop-i-test.true
+    (tested a.n a.work.now a.alive.now c.loop-i.i c.if-alive-i.true c.if-not-row_fits.ensures)))
 
-pub overflow_add-i : goal.overflow_add-i
-overflow_add-i c = omega (arith, c.well_formed, c.loop-i-test.true)
-
+-- the way on: vector i is off, or it passes
 pub loop-i-preserved : goal.loop-i-preserved
 loop-i-preserved c =
+    let a = c.args in
     let l = c.loop-i in (
       omega arith,
       every_more _ l.i l.invariant.1 (elim c.if-alive-i.branch [
         | then-alive-i+else-not-row_fits w ↦
-            on_is _ _ w.if-alive-i.true ∙ sym (row_test c.args.n c.args.work.now l.i) ∙ sym w.row_fits.ensures
-            ∙ not-false _ w.if-not-row_fits.false-raw
+            tested a.n a.work.now a.alive.now l.i w.if-alive-i.true w.if-not-row_fits.ensures
         | else-alive-i w ↦ off_passes _ _ w.if-alive-i.false
       ]),
     )

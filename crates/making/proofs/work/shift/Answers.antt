@@ -1,32 +1,52 @@
 use mathlib.Core.Path.{◌≡◌, refl, sym, ◌∙◌}
-use Prim.Native.Nat.{◌+◌}
+use mathlib.Core.List.{List}
+use Prim.Native.Nat.{◌+◌, ℕ, suc, ◌≤◌, ◌<◌}
 use native.Mathlib.Omega.{arith}
 use native.Mathlib.Numerals.{add-one}
-use lib.IntN.{pos, neg_ℤ, ◌-ℤ◌}
-use lib.ListN.{get_or}
+use lib.IntN.{pos, ◌-ℤ◌, ℤ}
+use lib.ListN.{get_or, length, take, replicate}
+use lib.Signed.{mag}
 use mir.Syntax.{w32}
-use mir.Val.{SFits}
-use Rattle.numbers.specs.Numbers.{−∞, fin, ⨁, Within}
+use mir.Val.{to_z, of_z}
+use Rattle.numbers.specs.Numbers.{−∞, ⨁}
 use Rattle.numbers.specs.Words.{number}
-use Rattle.numbers.specs.Places.{entries}
-use Rattle.numbers.proofs.WordLaws.{Finite, back, is_mark_lem, not_mark}
+use Rattle.numbers.specs.Places.{entries, side_of, Each}
+use Rattle.numbers.proofs.WordLaws.{Finite, is_mark_lem, not_mark, Marked}
 use Rattle.sets.proofs.FallLaws.{each_wider}
+use Rattle.making.specs.Work.{shift_of}
 use Rattle.making.proofs.WorkLaws.{negated, shift_point, shift_none, shift_ray, largest, zeros_long, zeros_each}
 use Rattle.making.proofs.WorkLaws.{negated_back, most_none, most_some, most_near}
 use Rattle.making.proofs.work.shift.Goals as goal
 
-pub overflow_sub-result : goal.overflow_sub-result
-overflow_sub-result c = rw (back c.last-1.given) (let it : (let z = get_or c.args.vector.now c.args.n (pos 0) in SFits w32 (pos 0 -ℤ z) × Within 10000000 (fin (neg_ℤ z))) = negated _ (rw (let it : Finite (get_or c.args.vector.now c.args.n (pos 0)) = not_mark (record { sfits = c.last-1.given }) c.if-last.true in it).is at (c.requires.2.each c.args.n (omega arith))) in it).0
+-- a ray, whose last word is the mark, and the side of zeros at it
+module _ (n : ℕ) (v : List ℤ) (m : ℤ) (clocks : n ≤ 6) (long : length v ≡ suc n)
+    (fits : mag (get_or v n (pos 0)) < 2147483648) (marked : of_z w32 (get_or v n (pos 0)) ≡ 2147483648)
+    (side : number m ≡ side_of (length v) (entries (take (n + 1) (replicate 7 (pos 0)))) (entries v)) where
+  ray : entries v n ≡ −∞
+  ray = (is_mark_lem (record { sfits = fits }) marked).is
+
+  -- the last entry is −∞, and the side of zeros is the largest entry
+  most : number m ≡ ⨁ n (entries v)
+  most = side ∙ largest n v long clocks ray
+
+  -- the mark: there is nothing to shift
+  none : Marked m → pos 0 ≡ shift_of n v
+  none k = shift_none n v ray (most_none n v m k most)
+
+  -- the largest entry's word, where it is not the mark
+  some : Each 10000000 v → mag m < 2147483648 → Finite m
+      → to_z w32 (of_z w32 (pos 0 -ℤ to_z w32 (of_z w32 m))) ≡ shift_of n v
+  some near h f = negated_back m h (negated m (most_near n v m long near f most)).0
+      ∙ shift_ray n v m ray (most_some n v m f most)
 
 pub returns-then-last : goal.returns-then-last
 returns-then-last c =
-    let s = c.args in
-    negated_back (get_or s.vector.now s.n (pos 0)) c.last-1.given (let it : (let z = get_or c.args.vector.now c.args.n (pos 0) in SFits w32 (pos 0 -ℤ z) × Within 10000000 (fin (neg_ℤ z))) = negated _ (rw (let it : Finite (get_or c.args.vector.now c.args.n (pos 0)) = not_mark (record { sfits = c.last-1.given }) c.if-last.true in it).is at (c.requires.2.each c.args.n (omega arith))) in it).0
-    ∙ shift_point s.n s.vector.now _ (let it : Finite (get_or c.args.vector.now c.args.n (pos 0)) = not_mark (record { sfits = c.last-1.given }) c.if-last.true in it).is refl
-
-pub slice_bounds-side-end : goal.slice_bounds-side-end
-slice_bounds-side-end c =
-    sym (zeros_long (c.args.n + 1) (omega (arith, c.requires.0)))
+    let a = c.args in
+    let last = get_or a.vector.now a.n (pos 0) in
+    -- the last word, where it is not the mark
+    let finite : Finite last = not_mark (record { sfits = c.last-1.given }) c.if-last.true in
+    let near = rw finite.is at (c.requires.2.each a.n (omega arith)) in
+    negated_back last c.last-1.given (negated last near).0 ∙ shift_point a.n a.vector.now last finite.is refl
 
 pub side-most-requires : goal.side-most-requires
 side-most-requires c =
@@ -38,15 +58,10 @@ side-most-requires c =
 
 pub returns-then-most : goal.returns-then-most
 returns-then-most c =
-    let s = c.args in
-    shift_none s.n s.vector.now (let it : (let s = c.args in entries s.vector.now s.n ≡ −∞) = (is_mark_lem (record { sfits = c.last-1.given }) c.if-last.false).is in it)
-    (most_none s.n s.vector.now _ (is_mark_lem (record { sfits = c.side-most.type_inv }) c.if-most.true) (let it : (let s = c.args in number c.side-most.result ≡ ⨁ s.n (entries s.vector.now)) = c.side-most.ensures ∙ largest c.args.n c.args.vector.now c.requires.1 c.requires.0 (let it : (let s = c.args in entries s.vector.now s.n ≡ −∞) = (is_mark_lem (record { sfits = c.last-1.given }) c.if-last.false).is in it) in it))
-
-pub overflow_sub-result-2 : goal.overflow_sub-result-2
-overflow_sub-result-2 c = rw (back c.side-most.type_inv) (let it : (let z = c.side-most.result in SFits w32 (pos 0 -ℤ z) × Within 10000000 (fin (neg_ℤ z))) = negated _ (most_near c.args.n c.args.vector.now _ c.requires.1 c.requires.2 (let it : Finite c.side-most.result = not_mark (record { sfits = c.side-most.type_inv }) c.if-most.false in it) (let it : (let s = c.args in number c.side-most.result ≡ ⨁ s.n (entries s.vector.now)) = c.side-most.ensures ∙ largest c.args.n c.args.vector.now c.requires.1 c.requires.0 (let it : (let s = c.args in entries s.vector.now s.n ≡ −∞) = (is_mark_lem (record { sfits = c.last-1.given }) c.if-last.false).is in it) in it)) in it).0
+    none _ _ _ c.requires.0 c.requires.1 c.last-1.given c.if-last.false c.side-most.ensures
+    (is_mark_lem (record { sfits = c.side-most.type_inv }) c.if-most.true)
 
 pub returns : goal.returns
 returns c =
-    let s = c.args in
-    negated_back c.side-most.result c.side-most.type_inv (let it : (let z = c.side-most.result in SFits w32 (pos 0 -ℤ z) × Within 10000000 (fin (neg_ℤ z))) = negated _ (most_near c.args.n c.args.vector.now _ c.requires.1 c.requires.2 (let it : Finite c.side-most.result = not_mark (record { sfits = c.side-most.type_inv }) c.if-most.false in it) (let it : (let s = c.args in number c.side-most.result ≡ ⨁ s.n (entries s.vector.now)) = c.side-most.ensures ∙ largest c.args.n c.args.vector.now c.requires.1 c.requires.0 (let it : (let s = c.args in entries s.vector.now s.n ≡ −∞) = (is_mark_lem (record { sfits = c.last-1.given }) c.if-last.false).is in it) in it)) in it).0
-    ∙ shift_ray s.n s.vector.now _ (let it : (let s = c.args in entries s.vector.now s.n ≡ −∞) = (is_mark_lem (record { sfits = c.last-1.given }) c.if-last.false).is in it) (most_some s.n s.vector.now _ (let it : Finite c.side-most.result = not_mark (record { sfits = c.side-most.type_inv }) c.if-most.false in it) (let it : (let s = c.args in number c.side-most.result ≡ ⨁ s.n (entries s.vector.now)) = c.side-most.ensures ∙ largest c.args.n c.args.vector.now c.requires.1 c.requires.0 (let it : (let s = c.args in entries s.vector.now s.n ≡ −∞) = (is_mark_lem (record { sfits = c.last-1.given }) c.if-last.false).is in it) in it))
+    some _ _ _ c.requires.0 c.requires.1 c.last-1.given c.if-last.false c.side-most.ensures
+    c.requires.2 c.side-most.type_inv (not_mark (record { sfits = c.side-most.type_inv }) c.if-most.false)
