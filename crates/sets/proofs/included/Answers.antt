@@ -1,14 +1,15 @@
 use mathlib.Core.Path.{◌≡◌, sym, ◌∙◌, ap}
-use mathlib.Core.Bool.{Bool, true, cond}
+use mathlib.Core.Bool.{Bool, true, cond, false}
 use mathlib.Core.List.{List}
 use Prim.Native.Nat.{ℕ}
 use native.Mathlib.Omega.{arith}
 use lib.IntN.{ℤ}
-use borrow.Author.Tests.{not-true, not-false}
 use Rattle.sets.specs.declared.Checked.{Checked}
 use Rattle.sets.specs.declared.Checked.TheVariants.{Good as Passed}
 use Rattle.sets.specs.declared.Told.TheVariants.{Refused}
 use Rattle.sets.specs.Rules.{tell, tell_after, has_point, covered, included_checked, included_of}
+use Rattle.sets.specs.Calls.{included_input}
+use Rattle.sets.specs.Demands.{Good}
 use Rattle.sets.proofs.TestLaws.{list_each}
 use Rattle.sets.proofs.FallLaws.{each_wider}
 use Rattle.sets.proofs.Asking.{passed_up, included_as, included_good}
@@ -24,31 +25,35 @@ after : (k : Checked) (n : ℕ) (i o : List ℤ) → k ≡ included_checked n i 
 unfolding included_of
 after k n i o e = ap (λ (k : Checked). tell_after k (test (has_point n i) n i o)) e
 
--- the answer once it is known whether the inner list has a point
-by_point : (b : Bool) (k : Checked) (n : ℕ) (i o : List ℤ) → b ≡ has_point n i → k ≡ Passed → k ≡ included_checked n i o
+-- input that passed is good
+good : (n : ℕ) (i o : List ℤ) → Passed ≡ included_checked n i o → Good (included_input n i o)
+good n i o e = included_good n i o (sym e)
+
+-- the test's answer, by whether the inner list has a point
+by_point : (b : Bool) (n : ℕ) (i o : List ℤ) → Passed ≡ included_checked n i o → b ≡ has_point n i
     → tell (test b n i o) ≡ included_of n i o
-by_point b k n i o e g a =
-    ap (λ (b : Bool). tell (test b n i o)) e
-    ∙ (ap (λ (k : Checked). tell_after k (test (has_point n i) n i o)) (sym g) ∙ after k n i o a)
+by_point b n i o e p = ap (λ (b : Bool). tell (test b n i o)) p ∙ after Passed n i o e
+
+-- the answer where it has one
+told : (n : ℕ) (i o : List ℤ) {b : Bool} → Passed ≡ included_checked n i o → true ≡ has_point n i → b ≡ covered n i o
+    → tell b ≡ included_of n i o
+told n i o e p is = ap tell is ∙ by_point true n i o e p
 
 pub returns-in_default : goal.returns-in_default
 returns-in_default c =
-    included_as _ _ _
-    (ap Refused c.why.ensures ∙ passed_up c.included-checked.result _ c.in_default.in_default-own.keys2 ∙ after _ _ _ _ c.included-checked.ensures)
+    included_as _ _ _ (ap Refused c.why.ensures
+    ∙ passed_up c.included-checked.result _ c.in_default.in_default-own.keys2
+    ∙ after _ _ _ _ c.included-checked.ensures)
 
 pub has_point-requires : goal.has_point-requires
-has_point-requires c = (included_good _ _ _ (sym c.included-checked.ensures ∙ c.in-Good.is)).0.0.few
+has_point-requires c = (good _ _ _ c.in-Good.ensures).0.0.few
 
 pub returns-then-not-has_point : goal.returns-then-not-has_point
-returns-then-not-has_point c =
-    let s = c.args in
-    included_as _ _ _
-    (sym (ap (λ (b : Bool). tell (test b s.n s.inner.now s.outer.now))
-    (not-true c.has_point.result c.if-not-has_point.true-raw)) ∙ by_point _ _ _ _ _ c.has_point.ensures c.in-Good.is c.included-checked.ensures)
+returns-then-not-has_point c = included_as _ _ _ (by_point false _ _ _ c.in-Good.ensures c.if-not-has_point.ensures)
 
 pub covered-requires : goal.covered-requires
 covered-requires c =
-    let g = (included_good _ _ _ (sym c.included-checked.ensures ∙ c.in-Good.is)) in
+    let g = good _ _ _ c.in-Good.ensures in
     record {
       few = g.0.0.few;
       few_vectors = g.0.2.few;
@@ -57,7 +62,9 @@ covered-requires c =
     }
 
 pub returns-then-covered : goal.returns-then-covered
-returns-then-covered c = included_as _ _ _ (sym (ap tell c.if-covered.true) ∙ (let s = c.args in ap tell c.covered.ensures ∙ ap (λ (b : Bool). tell (test b s.n s.inner.now s.outer.now)) (sym (not-false c.has_point.result c.if-not-has_point.false-raw)) ∙ by_point _ _ _ _ _ c.has_point.ensures c.in-Good.is c.included-checked.ensures))
+returns-then-covered c =
+    included_as _ _ _ (told _ _ _ c.in-Good.ensures c.if-not-has_point.ensures c.if-covered.ensures)
 
 pub returns-else-covered : goal.returns-else-covered
-returns-else-covered c = included_as _ _ _ (sym (ap tell c.if-covered.false) ∙ (let s = c.args in ap tell c.covered.ensures ∙ ap (λ (b : Bool). tell (test b s.n s.inner.now s.outer.now)) (sym (not-false c.has_point.result c.if-not-has_point.false-raw)) ∙ by_point _ _ _ _ _ c.has_point.ensures c.in-Good.is c.included-checked.ensures))
+returns-else-covered c =
+    included_as _ _ _ (told _ _ _ c.in-Good.ensures c.if-not-has_point.ensures c.if-covered.ensures)
