@@ -1,64 +1,47 @@
-use Rattle.model.proofs.StoreLaws.{room, free_room, count, whole, part, prefix, taken}
-use mathlib.Core.Path.{refl, ap, ◌∙◌}
-use Prim.Native.Nat.{ℕ}
-use native.Mathlib.Omega.{arith}
-use lib.ListN.{length, drop}
+use mathlib.Core.Path.{refl, ap, ◌∙◌, ◌≡◌}
 use mathlib.Core.List.{List, ◌++◌}
-use borrow.Author.Tests.{not-true, not-false}
-use Rattle.codec.specs.Answers.{Room}
+use Prim.Native.Nat.{ℕ, ◌≤◌}
+use native.Mathlib.Omega.{arith}
+use lib.ListN.{length, drop, take, replicate}
+use Rattle.codec.specs.Answers.{Writes}
 use Rattle.model.specs.Written.{model_bytes}
-use Rattle.model.specs.Answers.{value, outside, short, wrote}
+use Rattle.model.specs.Answers.{value, wrote, WritesModel}
+use Rattle.model.specs.declared.Model.{Model}
+use Rattle.model.specs.Limits.{ModelLimits}
+use Rattle.model.proofs.StoreLaws.{room, free_room, count, whole, part}
 use Rattle.model.proofs.write.Goals as goal
 
-pub returns-then-not-fits : goal.returns-then-not-fits
-returns-then-not-fits c = outside (c.model_fits-fits.ensures.no (not-true _ c.if-not-fits.true-raw)) refl refl
+-- a long area has room for the model
+at_once : (m : Model) {area after : List ℕ} {end : ℕ} → ModelLimits m → 33664 ≤ length area
+    → Writes area 0 (model_bytes m) after end → WritesModel m area after (value end)
+at_once m {area} l h w =
+    let r = room m l area h in
+    wrote l (omega (arith, r.fits)) (whole m r w) (ap value (count m r w))
+
+-- a shorter one gets the bytes that were written apart
+by_copy : (m : Model) {area bytes after : List ℕ} {end : ℕ} → ModelLimits m
+    → Writes (replicate 33664 0) 0 (model_bytes m) bytes end → end ≤ length area
+    → after ≡ take end bytes ++ drop (length (take end bytes)) area → WritesModel m area after (value end)
+by_copy m {area} l w h copied =
+    let r = free_room m l in
+    let n = count m r w in
+    let same = ap (λ (xs : List ℕ). xs ++ drop (length xs) area) (part m r w) in
+    wrote l (omega (arith, h, n)) (copied ∙ same) (ap value n)
 
 pub write_model-end-requires : goal.write_model-end-requires
-write_model-end-requires c = ((c.model_fits-fits.ensures.yes (not-false _ c.if-not-fits.false-raw)), (let it : Room 0 (model_bytes c.args.model) c.args.out.now = room _ (c.model_fits-fits.ensures.yes (not-false _ c.if-not-fits.false-raw)) _ (omega (arith, c.if-out-ge33664.true)) in it))
+write_model-end-requires c =
+    let fits = c.if-not-fits.ensures.yes refl in
+    (fits, room _ fits _ c.if-out-ge33664.true)
 
 pub returns-then-out-ge33664 : goal.returns-then-out-ge33664
 returns-then-out-ge33664 c =
-    let r = (let it : Room 0 (model_bytes c.args.model) c.args.out.now = room _ (c.model_fits-fits.ensures.yes (not-false _ c.if-not-fits.false-raw)) _ (omega (arith, c.if-out-ge33664.true)) in it) in
-    let w = c.write_model-end.ensures in
-    wrote (c.model_fits-fits.ensures.yes (not-false _ c.if-not-fits.false-raw)) (omega (arith, r.fits)) (whole _ r w)
-    (ap value (count _ r w))
+    at_once c.args.model (c.if-not-fits.ensures.yes refl) c.if-out-ge33664.true c.write_model-end.ensures
 
 pub write_model-end-requires-2 : goal.write_model-end-requires-2
-write_model-end-requires-2 c = ((c.model_fits-fits.ensures.yes (not-false _ c.if-not-fits.false-raw)), free_room _ (c.model_fits-fits.ensures.yes (not-false _ c.if-not-fits.false-raw)))
-
-pub returns-then-out-end : goal.returns-then-out-end
-returns-then-out-end c =
-    let l = (c.model_fits-fits.ensures.yes (not-false _ c.if-not-fits.false-raw)) in
-    let n = count _ (free_room _ l) c.write_model-end-2.ensures in
-    short l (omega (arith, c.if-out-end.true, n)) refl refl
-
-pub slice_bounds-bytes-end : goal.slice_bounds-bytes-end
-slice_bounds-bytes-end c =
-    prefix _ (free_room _ (c.model_fits-fits.ensures.yes (not-false _ c.if-not-fits.false-raw)))
-    c.write_model-end-2.ensures
-
-pub slice_bounds-copy-end : goal.slice_bounds-copy-end
-slice_bounds-copy-end c =
-    taken _ (free_room _ (c.model_fits-fits.ensures.yes (not-false _ c.if-not-fits.false-raw)))
-    c.write_model-end-2.ensures
-
-pub copy-requires : goal.copy-requires
-copy-requires c =
-    omega (
-      arith,
-      c.if-out-end.false,
-      taken _ (free_room _ (c.model_fits-fits.ensures.yes (not-false _ c.if-not-fits.false-raw)))
-          c.write_model-end-2.ensures,
-    )
+write_model-end-requires-2 c =
+    let fits = c.if-not-fits.ensures.yes refl in
+    (fits, free_room _ fits)
 
 pub returns : goal.returns
 returns c =
-    let l = (c.model_fits-fits.ensures.yes (not-false _ c.if-not-fits.false-raw)) in
-    let w = c.write_model-end-2.ensures in
-    let n = count _ (free_room _ l) w in
-    let bytes =
-    ap (λ (xs : List ℕ). xs ++ drop (length xs)
-    c.args.out.now)
-    (part _ (free_room _ l) w) in
-    wrote l (omega (arith, c.if-out-end.false, n))
-    (c.copy.ensures ∙ bytes) (ap value n)
+    by_copy c.args.model (c.if-not-fits.ensures.yes refl) c.write_model-end-2.ensures c.if-out-end.false c.copy.ensures
