@@ -8,30 +8,15 @@ use Rattle.making.proofs.clean.clean.Goals as goal
 pub loop-i-init : goal.loop-i-init
 loop-i-init c = (omega arith, refl, clean_start _ _ _ _ c.requires.on)
 
-pub try_one-requires : goal.try_one-requires
-try_one-requires c =
-    let p = c.requires in
-    (p.clocks, c.loop-i-test.true, rw c.loop-i.invariant.1 p.whole, p.near)
-
-pub overflow_add-i : goal.overflow_add-i
-overflow_add-i c =
-    omega (arith, c.well_formed, (let it : c.loop-i.i < length c.args.alive.now = omega (arith, c.loop-i-test.true, c.loop-i.invariant.1) in it))
-
-pub loop-i-smaller : goal.loop-i-smaller
-loop-i-smaller c = omega (arith, (let it : c.loop-i.i < length c.args.alive.now = omega (arith, c.loop-i-test.true, c.loop-i.invariant.1) in it))
-
 pub loop-i-preserved : goal.loop-i-preserved
 loop-i-preserved c =
     let l = c.loop-i in
-    let h = (let it : c.loop-i.i < length c.args.alive.now = omega (arith, c.loop-i-test.true, c.loop-i.invariant.1) in it) in
+    let h : l.i < length c.args.alive.now = omega (arith, c.loop-i-test.true, l.invariant.1) in
     let e = c.try_one.ensures in (
       omega (arith, h),
       try_long _ _ _ l.alive l.i _ e ∙ l.invariant.1,
       clean_more _ _ _ l.alive l.i _ _ (length l.alive) l.invariant.1 e h l.invariant.2,
     )
-
-pub shape_of-alive : goal.shape_of-alive
-shape_of-alive c = c.loop-i.invariant.1
 
 pub returns : goal.returns
 returns c =

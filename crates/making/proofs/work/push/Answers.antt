@@ -21,16 +21,17 @@ part_long n k work h =
 
 pub place-requires : goal.place-requires
 place-requires c =
-    let p = c.requires in (
+    let p = c.requires in
+    let by = back c.shift-by.type_inv ∙ c.shift-by.ensures in (
       part_long c.args.n c.args.k c.args.work.now p.room ∙ sym p.long,
       each_wider (omega arith) p.near,
-      wider {k = 10000000} (omega arith) (rw (back c.shift-by.type_inv ∙ c.shift-by.ensures) (shift_near _ _ p.long p.near)),
+      wider {k = 10000000} (omega arith) (rw by (shift_near _ _ p.long p.near)),
     )
 
 pub returns : goal.returns
 returns c =
     let a = c.args in
     let e : a.k * (a.n + 1) + (a.n + 1) - a.k * (a.n + 1) ≡ a.n + 1 = omega arith in
+    let by = back c.shift-by.type_inv ∙ c.shift-by.ensures in
     rw (e, add-one a.n) (pushed a.n a.work.now a.k a.vector.now _ c.requires
-    (subst (λ (z : ℤ). Shifted a.vector.now z c.place.new.out) (back c.shift-by.type_inv ∙ c.shift-by.ensures)
-    c.place.ensures))
+    (subst (λ (z : ℤ). Shifted a.vector.now z c.place.new.out) by c.place.ensures))
