@@ -16,11 +16,6 @@ use Rattle.numbers.proofs.side.Goals.{then-c-ge-LEAST, else-c-ge-LEAST}
 pub loop-j-init : goal.loop-j-init
 loop-j-init c = (omega arith, number_mark ∙ sym (⨁_none _))
 
-pub product-requires : goal.product-requires
-product-requires c =
-    let j = c.loop-j.j in
-    search (rules, c.requires.1.each j (omega arith), c.requires.2.each j (omega arith))
-
 pub loop-j-preserved : goal.loop-j-preserved
 loop-j-preserved c =
     let l = c.loop-j in
@@ -29,8 +24,10 @@ loop-j-preserved c =
     let wide : Within 1000000000 (number h) = c.requires.1.each l.j (omega arith) in (
       omega arith,
       elim c.if-c-ge-LEAST.branch [
-        | then-c-ge-LEAST w ↦ rw w.most-is (search (rules, ⨁_more, w.larger-most.ensures, w.product.ensures, l.invariant.1))
-        | else-c-ge-LEAST w ↦ rw w.most-is (l.invariant.1 ∙ sym (⨁_low l.j _ (rw (is_low f wide w.if-c-ge-LEAST.false).is)))
+        | then-c-ge-LEAST w ↦
+            rw w.most-is (search (rules, ⨁_more, w.larger-most.ensures, w.product.ensures, l.invariant.1))
+        | else-c-ge-LEAST w ↦
+            rw w.most-is (l.invariant.1 ∙ sym (⨁_low l.j _ (rw (is_low f wide w.if-c-ge-LEAST.false).is)))
       ],
     )
 
