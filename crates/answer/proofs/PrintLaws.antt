@@ -1,3 +1,4 @@
+use Rattle.std.proofs.Common.{Err, Ok}
 -- The contracts of printing: of a model that is walked, and of bytes.
 use mathlib.Core.List.{List, [], ◌++◌, append-nil}
 use mathlib.Core.Path.{◌≡◌, refl, sym, ap, ◌∙◌, subst}
@@ -5,21 +6,16 @@ use Prim.Native.Nat.{ℕ, ◌-◌, ◌≤◌}
 use native.Mathlib.Omega.{arith}
 use lib.IntN.{ℤ}
 use lib.ListN.{length}
-use denote.Enum.Declared.{tag_of}
 use Rattle.numbers.specs.Refusals.{refusal_number}
 use Rattle.numbers.specs.declared.Refusal.{Refusal}
 use Rattle.numbers.proofs.RefusalLaws.{number_range}
-use Rattle.codec.specs.declared.Step.{Step}
-use Rattle.codec.specs.declared.Step.TheVariants.{At, Refused as Stopped}
-use Rattle.codec.specs.contracts.Step.{the_type}
-use Rattle.codec.specs.Answers.{Writes, Room, why_step}
+use Rattle.codec.specs.Answers.{Writes, Room}
 use Rattle.codec.specs.Arrays.{each, AreBytes}
 use Rattle.codec.proofs.WriteLaws.{put_start, wrote_then, room_first, room_next}
 use Rattle.runs.specs.Verdicts.{Answer, reached, refused, answer_by}
-use Rattle.runs.specs.declared.Verdict.{Verdict}
-use Rattle.runs.specs.declared.Verdict.TheVariants.{Reached, Never, Open, Refused}
+use Rattle.runs.specs.Verdicts.{Judged}
+use Rattle.runs.specs.declared.Verdict.TheVariants.{Reached, Never, Open}
 use Rattle.model.specs.declared.Model.{Model}
-use Rattle.model.specs.declared.Outline.{Outline}
 use Rattle.model.specs.Answers.{Said, value, read_of}
 use Rattle.model.specs.Outlines.{ReadsOutline}
 use Rattle.model.specs.Limits.{ModelLimits}
@@ -33,7 +29,7 @@ use Rattle.answer.proofs.Saying.{text_says}
 use Rattle.answer.proofs.WalkedText.{ShownBy, Legible, refused_long, walked_legible}
 
 -- ---- a model that is walked
-module _ (m : Model) (limits : ModelLimits m) (before : List ℤ) (v : Verdict) (after : List ℤ)
+module _ (m : Model) (limits : ModelLimits m) (before : List ℤ) (v : Judged) (after : List ℤ)
     (h : WalksModel m before v after) where
   abbrev n : ℕ
   n = m.clocks
@@ -62,29 +58,38 @@ module _ (m : Model) (limits : ModelLimits m) (before : List ℤ) (v : Verdict) 
     wrote = subst (λ (x : Walked). Writes text 0 (text_for (value m) x) text' end) h.rule w;
   }
 
-  -- the first line is all, where the verdict is not REACHED
-  pub prints_head : {text text' : List ℕ} {end : ℕ} → ((d k t : ℕ) → v ≡ Reached d k t → ⊥)
+  -- the first line is all, where the answer is not REACHED
+  abbrev Alone : Judged → Type 0
+  Alone (Ok (Reached d k t)) = ⊥
+  Alone (Ok (Never k t)) = Unit {0}
+  Alone (Ok (Open d k t)) = Unit {0}
+  Alone (Err e) = Unit {0}
+
+  pub prints_head : {text text' : List ℕ} {end : ℕ} {u : Judged} → v ≡ u → Alone u
       → Writes text 0 (head_of (answer_by v)) text' end → PrintsModel m before text after text' end
-  prints_head {text} {text'} {end} t w = prints (subst (λ (b : List ℕ). Writes text 0 b text' end)
-      (sym (ap (λ (l : List ℕ). head_of (answer_by v) ++ l) (none v t) ∙ append-nil (head_of (answer_by v)))) w)
+  prints_head {text} {text'} {end} {u} e a w = prints (subst (λ (b : List ℕ). Writes text 0 b text' end)
+      (sym (ap (λ (l : List ℕ). head_of (answer_by v) ++ l) none ∙ append-nil (head_of (answer_by v)))) w)
     where
-      none : (u : Verdict) → ((d k t : ℕ) → u ≡ Reached d k t → ⊥) → lines_of (stops_by (answer_by v)) (answer_by u) ≡ []
-      none (Reached d k t) q = absurd (q d k t refl)
-      none (Never k t) q = refl
-      none (Open d k t) q = refl
-      none (Refused e) q = refl
+      alone : (u : Judged) → Alone u → lines_of (stops_by (answer_by v)) (answer_by u) ≡ []
+      alone (Ok (Reached d k t)) q = absurd q
+      alone (Ok (Never k t)) q = refl
+      alone (Ok (Open d k t)) q = refl
+      alone (Err e) q = refl
+
+      none : lines_of (stops_by (answer_by v)) (answer_by v) ≡ []
+      none = ap (λ (x : Judged). lines_of (stops_by (answer_by v)) (answer_by x)) e ∙ alone u a
 
   -- REACHED: the lines of the path follow
-  module _ {d k t : ℕ} (e : v ≡ Reached d k t) where
+  module _ {d k t : ℕ} (e : v ≡ Ok (Reached d k t)) where
     shown : ShownBy m after (reached d k t)
-    shown = subst (λ (u : Verdict). ShownBy m after (answer_by u)) e legible.shown
+    shown = subst (λ (u : Judged). ShownBy m after (answer_by u)) e legible.shown
 
     -- under REACHED some state was kept
     pub some_kept : 1 ≤ k
     some_kept = shown.0
 
     lines_are : lines_of (stops_by (answer_by v)) (answer_by v) ≡ each line_of (stops_by (reached d k t))
-    lines_are = ap (λ (u : Verdict). lines_of (stops_by (answer_by u)) (answer_by u)) e
+    lines_are = ap (λ (u : Judged). lines_of (stops_by (answer_by u)) (answer_by u)) e
 
     module _ {text text' : List ℕ} {at : ℕ} (w : Writes text 0 (head_of (answer_by v)) text' at) where
       -- there is room for the lines to the state kept last
@@ -104,7 +109,7 @@ module _ (m : Model) (limits : ModelLimits m) (before : List ℤ) (v : Verdict) 
           (sym lines_are) (l.wrote (stops_by (reached d k t)) shown.1)))
 
 -- ---- bytes
-pub refused_fits : {text : List ℕ} (e : Refusal) → 397 ≤ length text → Room 0 (head_of (answer_by (Refused e))) text
+pub refused_fits : {text : List ℕ} (e : Refusal) → 397 ≤ length text → Room 0 (head_of (answer_by (Err e))) text
 refused_fits e r = record { fits = omega (arith, head_long (refused (refusal_number e)) (number_range e).1) }
 
 module _ (bytes : List ℕ) (are : AreBytes bytes) (area : List ℤ) (text : List ℕ) where
@@ -119,15 +124,12 @@ module _ (bytes : List ℕ) (are : AreBytes bytes) (area : List ℤ) (text : Lis
       record { is = rw (e, a, said, stored); means = text_says bytes are area }
 
   -- the bytes are refused
-  pub prints_unread : (step : Step) {o : Outline} {e : Refusal} {text' : List ℕ} {end : ℕ} → 397 ≤ length text
-      → ReadsOutline bytes step o → tag_of the_type step ≡ 1 → e ≡ why_step step
-      → Writes text 0 (head_of (answer_by (Refused e))) text' end → Prints bytes area text end area text'
+  pub prints_unread : (e : Refusal) {text' : List ℕ} {end : ℕ} → 397 ≤ length text → ReadsOutline bytes (Err e)
+      → Writes text 0 (head_of (answer_by (Err e))) text' end → Prints bytes area text end area text'
   unfolding walked_of text_of
-  prints_unread (At next) r s z f w = absurd (omega (arith, z))
-  prints_unread (Stopped x) {text' = text'} {end = end} r s z f w =
-      prints_said r (sym s.said) (refused_long [] (refusal_number x) (number_range x).1) refl
-      (subst (λ (b : List ℕ). Writes text 0 b text' end)
-      (ap (λ (y : Refusal). head_of (answer_by (Refused y))) f ∙ sym (append-nil (head_of (refused (refusal_number x))))) w)
+  prints_unread e {text' = text'} {end = end} r s w =
+      prints_said r (sym s.said) (refused_long [] (refusal_number e) (number_range e).1) refl
+      (subst (λ (b : List ℕ). Writes text 0 b text' end) (sym (append-nil (head_of (refused (refusal_number e))))) w)
 
   -- the bytes are those of a model
   pub prints_read : {m : Model} {area' : List ℤ} {text' : List ℕ} {end : ℕ} → 397 ≤ length text → read_of bytes ≡ value m

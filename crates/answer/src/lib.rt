@@ -5,7 +5,6 @@ ghost use Rattle.model.specs.Outlines.{model_by};
 ghost use Rattle.answer.specs.Printed.{Prints};
 ghost use Rattle.answer.specs.Shown.{Printable, Lines, Ready, PrintsModel};
 
-use codec::Step;
 use model::{Outline, places};
 use runs::Verdict;
 
@@ -24,8 +23,8 @@ fn lines(area: &[i32], n: usize, i: usize, text: &mut [u8], at: usize) -> usize
     }
     let edge = area[from + 2];
     let location = area[from];
-    let end = lines(area, n, parent as usize, &mut *text, at);
-    printing::line(&mut *text, end, edge as usize, location as usize)
+    let end = lines(area, n, parent as usize, text, at);
+    printing::line(text, end, edge as usize, location as usize)
 }
 
 // Walks a model and writes its text: the first line, and under REACHED the lines of the path.
@@ -35,17 +34,14 @@ fn print(bytes: &[u8], outline: Outline, area: &mut [i32], text: &mut [u8]) -> u
         area.new text.new result }
 {
     let n = outline.clocks as usize;
-    let v = walk::walk_outline(bytes, outline, &mut *area);
-    let at = printing::head(&mut *text, v);
-    let Verdict::Reached {
-        edges: _,
-        kept,
-        tried: _,
-    } = v
-    else {
-        return at; // the first line is all
-    };
-    lines(area, n, kept - 1, &mut *text, at)
+    let answer = walk::walk_outline(bytes, outline, area);
+    let at = printing::head(text, answer);
+    match answer {
+        Ok(Verdict::Reached { kept, .. }) => lines(area, n, kept - 1, text, at),
+        Ok(Verdict::Never { .. }) => at, // the first line is all
+        Ok(Verdict::Open { .. }) => at,
+        Err(_) => at,
+    }
 }
 
 // Writes the text of the walk over bytes, and answers how long it is.
@@ -53,11 +49,8 @@ pub fn answer(bytes: &[u8], area: &mut [i32], text: &mut [u8; TEXT]) -> usize
     ensures { Prints bytes.now area.old text.old result area.new
         text.new }
 {
-    let r = places::read_outline(bytes);
-    let step = r.step;
-    let outline = r.outline;
-    let Step::At(_) = step else {
-        return printing::head(text, Verdict::Refused(step.why()));
-    };
-    print(bytes, outline, area, text)
+    match places::read_outline(bytes) {
+        Ok(outline) => print(bytes, outline, area, text),
+        Err(e) => printing::head(text, Err(e)),
+    }
 }

@@ -2,13 +2,17 @@
 use mathlib.Core.Bool.{Bool, true, false, ◌||◌}
 use mathlib.Core.List.{List, [], ◌∷◌, ◌++◌}
 use mathlib.Core.Path.{◌≡◌, refl, sym, ap, ◌∙◌, subst}
-use Prim.Native.Nat.{ℕ, zero, suc, ◌+◌, ◌<◌}
+use Prim.Native.Nat.{ℕ, zero, suc, ◌<◌}
 use native.Mathlib.Decide.{dec_lt}
-use native.Mathlib.Numerals.{add-one}
+use native.Mathlib.Nat.{zero-add}
 use native.Mathlib.Omega.{arith}
 use lib.IntN.{ℤ}
-use borrow.Author.Tests.{eq-eqb, ne_eqb}
-use Rattle.sets.specs.declared.Told.{Told}
+use borrow.Author.Tests.{eq-eqb}
+use Rattle.std.proofs.Common.{Err, Ok}
+use Rattle.std.specs.Result.{result_unwrap_or}
+use Rattle.std.specs.List.{IsAnyAnswer, range_with_len}
+use Rattle.std.proofs.lemmas.List.FromFn.{length-range_with_len, get_or-range_with_len}
+use Rattle.sets.specs.Types.{Told}
 use Rattle.sets.specs.Calls.{IsIncluded}
 use Rattle.sets.specs.Rules.{included_of}
 use Rattle.sets.proofs.Asking.{included_settled, included_meets}
@@ -16,18 +20,19 @@ use Rattle.runs.specs.Rule.{State, is_yes, included, covered}
 use Rattle.area.specs.Records.{state_in, states_in, covers_by}
 
 -- ---- one state
+yes_or_no : (told : Told) → result_unwrap_or told false ≡ is_yes told
+yes_or_no (Ok b) = refl
+yes_or_no (Err e) = refl
+
 module _ (n q l : ℕ) (s : State) (e : l ≡ s.location) (inner : List ℤ) where
   -- it is in location q, and inclusion is asked of its list
   pub covers_asks : l ≡ q → (outer : List ℤ) → outer ≡ s.list → (told : Told) → IsIncluded n inner outer told
-      → is_yes told ≡ covers_by n q inner s
+      → result_unwrap_or told false ≡ covers_by n q inner s
   unfolding included
   covers_asks h outer p told r = rw (← e, eq-eqb l q h)
-      (ap is_yes (included_settled n inner outer told (included_of n inner outer) r (included_meets n inner outer))
+      (yes_or_no told
+      ∙ ap is_yes (included_settled n inner outer told (included_of n inner outer) r (included_meets n inner outer))
       ∙ ap (λ o. is_yes (included_of n inner o)) p)
-
-  -- it is in another location
-  pub covers_not : ¬ (l ≡ q) → false ≡ covers_by n q inner s
-  covers_not h = rw (← e, ne_eqb l q h)
 
 -- ---- all of them
 or_assoc : (a b c : Bool) → ((a || b) || c) ≡ (a || (b || c))
@@ -38,6 +43,10 @@ or_false : (a : Bool) → (a || false) ≡ a
 or_false true = refl
 or_false false = refl
 
+or_true : (a : Bool) → (a || true) ≡ true
+or_true true = refl
+or_true false = refl
+
 -- one state more to look at
 covered_snoc : (n q : ℕ) (l : List ℤ) (kept : List State) (s : State)
     → covered n (kept ++ (s ∷ [])) q l ≡ (covered n kept q l || covers_by n q l s)
@@ -47,40 +56,38 @@ covered_snoc n q l (t ∷ kept) s = ap (λ b. covers_by n q l t || b) (covered_s
     ∙ sym (or_assoc (covers_by n q l t) (covered n kept q l) (covers_by n q l s))
 
 module _ (n q : ℕ) (l area : List ℤ) where
-  -- none of the first i includes it
-  abbrev pub None : ℕ → Type 0
-  None i = covered n (states_in n i area) q l ≡ false
+  abbrev covers : ℕ → Bool
+  covers i = covers_by n q l (state_in n area i)
 
-  states_snoc : (i : ℕ) → covered n (states_in n (suc i) area) q l
-      ≡ (covered n (states_in n i area) q l || covers_by n q l (state_in n area i))
+  states_snoc : (i : ℕ) → covered n (states_in n (suc i) area) q l ≡ (covered n (states_in n i area) q l || covers i)
   unfolding states_in
   states_snoc i = covered_snoc n q l (states_in n i area) (state_in n area i)
 
-  -- none of the first 0 states includes the list
-  pub none_start : None 0
+  -- none of the first m includes it
+  none_of : (m : ℕ) → ((i : ℕ) → i < m → covers i ≡ false) → covered n (states_in n m area) q l ≡ false
   unfolding states_in covered
-  none_start = refl
+  none_of zero h = refl
+  none_of (suc m) h =
+      states_snoc m ∙ (ap (λ a. a || covers m) (none_of m (λ i b. h i (omega arith))) ∙ h m (omega arith))
 
-  -- nor does one more state that does not
-  pub none_next : (i : ℕ) (r : Bool) → None i → r ≡ covers_by n q l (state_in n area i) → r ≡ false → None (i + 1)
-  none_next i r h e f =
-      rw add-one (states_snoc i ∙ (ap (λ a. a || covers_by n q l (state_in n area i)) h ∙ (sym e ∙ f)))
-
-  -- one of the first does, so one of the first m
-  pub some_more : (i m : ℕ) → i < m → covered n (states_in n (suc i) area) q l ≡ true
-      → covered n (states_in n m area) q l ≡ true
-  some_more i zero h e = absurd (omega arith)
-  some_more i (suc m) h e = by (λ a. some_more i m a e) (dec_lt i m)
+  -- one of the first m does
+  one_of : (i m : ℕ) → i < m → covers i ≡ true → covered n (states_in n m area) q l ≡ true
+  one_of i zero h e = absurd (omega arith)
+  one_of i (suc m) h e = states_snoc m ∙ last_or (λ a. one_of i m a e) (dec_lt i m)
     where
-      by : (i < m → covered n (states_in n m area) q l ≡ true) → Dec (i < m)
-          → covered n (states_in n (suc m) area) q l ≡ true
-      by f (yes a) = states_snoc m ∙ ap (λ a. a || covers_by n q l (state_in n area m)) (f a)
-      by f (no a) =
+      last_or : (i < m → covered n (states_in n m area) q l ≡ true) → Dec (i < m)
+          → (covered n (states_in n m area) q l || covers m) ≡ true
+      last_or f (yes a) = ap (λ a. a || covers m) (f a)
+      last_or f (no a) =
           let k : i ≡ m = omega (arith, a) in
-          subst (λ (k : ℕ). covered n (states_in n (suc k) area) q l ≡ true) k e
+          ap (λ b. covered n (states_in n m area) q l || b) (subst (λ (k : ℕ). covers k ≡ true) k e)
+          ∙ or_true (covered n (states_in n m area) q l)
 
-  -- one that does is found
-  pub some_next : (i m : ℕ) (r : Bool) → i < m → None i → r ≡ covers_by n q l (state_in n area i) → r ≡ true
-      → true ≡ covered n (states_in n m area) q l
-  some_next i m r b h e f = sym (some_more i m b
-      (states_snoc i ∙ (ap (λ a. a || covers_by n q l (state_in n area i)) h ∙ (sym e ∙ f))))
+  -- so says the search through their numbers
+  pub covered_as : (m : ℕ) (r : Bool) → IsAnyAnswer (λ i b. covers i ≡ b) (range_with_len 0 m) r
+      → r ≡ covered n (states_in n m area) q l
+  covered_as m true (i, b, e) =
+      let w : i < m = omega (arith, length-range_with_len 0 m) in
+      sym (one_of i m w (subst (λ (k : ℕ). covers k ≡ true) (get_or-range_with_len 0 m i 0 w ∙ zero-add i) (e 0)))
+  covered_as m false h = sym (none_of m (λ i b. subst (λ (k : ℕ). covers k ≡ false)
+      (get_or-range_with_len 0 m i 0 b ∙ zero-add i) (h i 0 (omega arith) (omega (arith, length-range_with_len 0 m)))))

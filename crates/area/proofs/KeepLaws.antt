@@ -4,17 +4,13 @@ use mathlib.Core.Path.{◌≡◌, refl, sym, ap, ◌∙◌, subst}
 use Prim.Native.Nat.{ℕ, zero, suc, ◌+◌, ◌-◌, ◌*◌, ◌≤◌, ◌<◌}
 use native.Mathlib.Decide.{dec_lt}
 use native.Mathlib.Nat.{suc-mul, zero-mul, mul-le-mul_right}
-use native.Mathlib.Numerals.{add-one}
 use native.Mathlib.Omega.{arith}
 use lib.IntN.{ℤ, pos}
-use lib.ListN.{length, set, take, drop, replicate, length-append, length-drop, length-replicate, take-append-drop}
-use lib.ListN.{replicate-append-replicate}
-use lib.Seq.{take-suc-set, take_all, drop_at, take_at, take-append-le, drop-append-le, length-take-le}
-use lib.Seq.{take-length, drop-append-add, take-add}
-use mir.Syntax.{w32}
-use mir.Val.{to_z, of_z, SFits}
-use mir.Facts.{to_z-of_z}
+use lib.ListN.{length, take, drop, replicate, length-append, length-drop, take-append-drop}
+use lib.Seq.{drop_at, take_at, take-append-le, drop-append-le, length-take-le}
+use lib.Seq.{drop-append-add, take-add}
 use borrow.Rule.Slice.PartMut.{put_mid}
+use Rattle.std.proofs.lemmas.List.{drop-replicate}
 use Rattle.algebra.specs.Vectors.{count}
 use Rattle.sets.specs.Limits.{Whole}
 use Rattle.sorting.specs.Rows.{put}
@@ -26,56 +22,22 @@ use Rattle.area.specs.Area.{record_size, record_of, records_of, holding}
 use Rattle.area.specs.Records.{written, kept, state, record_at, state_of, state_in, states_in, Stands, Recorded}
 use Rattle.area.proofs.RecordLaws.{size_is, record_size_lem, state_back, list_fits_lem}
 
--- ---- every word 0
--- one word more is 0
-pub zero_next : (l : List ℤ) (j : ℕ) → j < length l → take j l ≡ replicate j (pos 0)
-    → take (j + 1) (set l j (pos 0)) ≡ replicate (j + 1) (pos 0)
-zero_next l j h e = rw add-one (take-suc-set l j (pos 0) h ∙ ap (λ x. x ++ (pos 0 ∷ [])) e
-    ∙ replicate-append-replicate j 1 (pos 0) ∙ rw add-one)
-
--- all words are 0 where the loop ends
-pub zero_done : (l d : List ℤ) (j : ℕ) → length l ≡ length d → length l ≤ j → j ≤ length d
-    → take j l ≡ replicate j (pos 0) → l ≡ replicate (length d) (pos 0)
-zero_done l d j n h k e =
-    let q : j ≡ length d = omega arith in
-    sym (take_all j l h) ∙ e ∙ ap (λ (i : ℕ). replicate i (pos 0)) q
-
 -- ---- one record
-zeros_behind : (a b : ℕ) → a ≤ b → drop a (replicate b (pos 0)) ≡ replicate (b - a) (pos 0)
-zeros_behind a b h =
-    let e : a + (b - a) ≡ b = omega arith in
-    ap (λ (k : ℕ). drop a (replicate k (pos 0))) (sym e)
-    ∙ (ap (drop a) (sym (replicate-append-replicate a (b - a) (pos 0)))
-    ∙ drop_at (replicate a (pos 0)) (replicate (b - a) (pos 0)) a (length-replicate a (pos 0)))
-
--- 0 everywhere, then the list from word 4 on, then the first four words
-pub write_law : (size : ℕ) (l : List ℤ) (a b c d : ℤ) → 4 + length l ≤ size
-    → set (set (set (set (put (replicate size (pos 0)) 4 (take (length l) (drop 0 l)) (length l)) 0 a) 1 b) 2 c) 3 d
-    ≡ written size a b c d l
-unfolding put written
-write_law size l a b c d h =
-    let q : 4 + (size - 4) ≡ size = omega arith in
-    let zeros : List ℤ = replicate (size - 4) (pos 0) in
-    ap (λ (z : List ℤ). set (set (set (set (take 4 z ++ take (length l) l ++ drop (4 + length l) z) 0 a) 1 b) 2 c) 3 d)
-    (ap (λ (k : ℕ). replicate k (pos 0)) (sym q) ∙ sym (replicate-append-replicate 4 (size - 4) (pos 0)))
-    ∙ (ap (λ z. set (set (set (set (take 4 (replicate 4 (pos 0) ++ zeros) ++ take (length l) l ++ z) 0 a) 1 b) 2 c) 3 d)
-    (drop-append-add (replicate 4 (pos 0)) zeros (length l))
-    ∙ ap (λ x. a ∷ b ∷ c ∷ d ∷ x)
-    (ap (λ v. v ++ drop (length l) zeros) (take-length l)
-    ∙ ap (λ z. l ++ z) (zeros_behind (length l) (size - 4) (omega arith))))
-
--- the same as code does it: each word is stored by its bits
-pub write_seen : (size : ℕ) (z cp l : List ℤ) {a b c d : ℤ} → SFits w32 a → SFits w32 b → SFits w32 c → SFits w32 d
-    → 4 + length l ≤ size → z ≡ replicate size (pos 0) → cp ≡ put z 4 (take (length l) (drop 0 l)) (length l)
-    → set (set (set (set cp 0 (to_z w32 (of_z w32 a))) 1 (to_z w32 (of_z w32 b))) 2 (to_z w32 (of_z w32 c))) 3
-    (to_z w32 (of_z w32 d)) ≡ written size a b c d l
-write_seen size z cp l {a} {b} {c} {d} fa fb fc fd h e f = rw (to_z-of_z fa, to_z-of_z fb, to_z-of_z fc, to_z-of_z fd, f, e)
-    (write_law size l a b c d h)
-
 -- the lent part put back
 pub put_back : (area v : List ℤ) (a b w : ℕ) → b ≡ a + w → put_mid a (b - a) area v ≡ put area a v w
 put_back area v a b w e =
     let k : b - a ≡ w = omega (arith, e) in ap (λ (x : ℕ). put_mid a x area v) k ∙ put_mid_lem area v a w
+
+-- 0 everywhere, then the first four words, then the list from word 4 on
+pub write_law : (size : ℕ) (l : List ℤ) (a b c d : ℤ) → 4 + length l ≤ size
+    → put_mid 4 (4 + length l - 4) ((a ∷ b ∷ c ∷ d ∷ []) ++ drop 4 (replicate size (pos 0))) l ≡ written size a b c d l
+unfolding put written
+write_law size l a b c d h =
+    put_back ((a ∷ b ∷ c ∷ d ∷ []) ++ drop 4 (replicate size (pos 0))) l 4 (4 + length l) (length l) refl
+    ∙ (ap (λ z. put ((a ∷ b ∷ c ∷ d ∷ []) ++ z) 4 l (length l)) (drop-replicate 4 size (pos 0))
+    ∙ ap (λ z. a ∷ b ∷ c ∷ d ∷ l ++ z)
+    (drop-append-add (a ∷ b ∷ c ∷ d ∷ []) (replicate (size - 4) (pos 0)) (length l)
+    ∙ drop-replicate (length l) (size - 4) (pos 0)))
 
 -- ---- record k of an area, with the size in a local
 pub row_room : (n k r : ℕ) {len : ℕ} → r ≡ record_size n → suc k * record_size n ≤ len → k * r + r ≤ len

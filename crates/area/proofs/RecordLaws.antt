@@ -2,7 +2,8 @@
 use mathlib.Core.Bool.{Bool, true, false, cond}
 use mathlib.Core.List.{List, ◌++◌, append_assoc}
 use mathlib.Core.Path.{◌≡◌, refl, sym, ap, ◌∙◌, subst}
-use Prim.Native.Nat.{ℕ, zero, suc, ◌+◌, ◌-◌, ◌*◌, ◌/◌, ◌≤◌, ◌<◌}
+use Prim.Native.Nat.{ℕ, zero, suc, ◌+◌, ◌-◌, ◌*◌, ◌/◌, ◌≤◌, ◌<◌, min}
+use native.Mathlib.Decide.{dec_lt}
 use native.Mathlib.Nat.{zero-mul, suc-mul, add-zero, mul-le-mul_right}
 use native.Mathlib.Numerals.{add-one}
 use native.Mathlib.Omega.{arith}
@@ -38,10 +39,9 @@ pub size_is : (n : ℕ) → record_size n ≡ 4 + 32 * suc n
 unfolding record_size
 size_is n = refl
 
--- the room of an area, by the test of its whole records
+-- the room of an area, by its whole records
 module _ (n : ℕ) (area : List ℤ) (r : ℕ) (q : r ≡ record_size n) where
-  -- the room where fewer than 64 records fit
-  pub room_few : length area / r < 64 → length area / r ≡ room_of n area
+  room_few : length area / r < 64 → length area / r ≡ room_of n area
   unfolding room_of
   room_few h = rw (← q, lt-ltb (length area / r) 64 h)
 
@@ -49,6 +49,14 @@ module _ (n : ℕ) (area : List ℤ) (r : ℕ) (q : r ≡ record_size n) where
   pub room_many : 64 ≤ length area / r → 64 ≡ room_of n area
   unfolding room_of
   room_many h = rw (← q, le-ltb (length area / r) 64 h)
+
+  -- as code computes it
+  pub room_min : (m : ℕ) → m ≡ min (length area / r) 64 → m ≡ room_of n area
+  room_min m e = by (dec_lt (length area / r) 64)
+    where
+      by : Dec (length area / r < 64) → m ≡ room_of n area
+      by (yes h) = let f : m ≡ length area / r = omega arith in f ∙ room_few h
+      by (no h) = let f : m ≡ 64 = omega (arith, h) in f ∙ room_many (omega (arith, h))
 
 -- a record has its size
 pub record_size_lem : (n : ℕ) (s : State) → Whole n s.list → length (record_of n s) ≡ record_size n

@@ -2,14 +2,13 @@
 #![tactic(auto)]
 
 ghost use Rattle.std.specs.Prelude.{◌≡◌, ◌+◌, ◌≤◌, pos, length, replicate};
-ghost use Rattle.runs.specs.Rule.{is_yes, covered as coveredBy};
+ghost use Rattle.runs.specs.Rule.{covered as coveredBy};
 ghost use Rattle.area.specs.Area.{record_size, room_of};
-ghost use Rattle.area.specs.Records.{written, kept, state, Keepable, Stands, Recorded, Places, state_in, states_in, covers_by};
-
-use sets::Told;
+ghost use Rattle.area.specs.Records.{written, kept, state, Keepable, Stands, Recorded, Places};
+ghost use Rattle.area.specs.Records.{state_in, states_in, covers_by};
 
 // Where a kept state stands: its location, and from where to where its list goes.
-#[derive(Clone, Copy)]
+#[derive(Clone, Copy, Debug, PartialEq, Eq)]
 pub struct Place {
     pub location: u32,
     pub from: usize,
@@ -29,20 +28,14 @@ pub fn room(area: &[i32], n: usize) -> usize
     requires { n ≤ 6 }
     ensures { result ≡ room_of n area.now }
 {
-    let size = size(n);
-    let records = area.len() / size;
-    if records < 64 { records } else { 64 }
+    (area.len() / size(n)).min(64)
 }
 
 // Sets every word to 0.
 pub fn zero(words: &mut [i32])
     ensures { words.new ≡ replicate (length words.old) (pos 0) }
 {
-    let mut j = 0;
-    while j < words.len() {
-        words[j] = 0;
-        j += 1;
-    }
+    words.fill(0);
 }
 
 // Writes a record: location, parent, edge, vector count, the list, and 0 behind it.
@@ -51,14 +44,12 @@ fn write(words: &mut [i32], location: i32, parent: i32, edge: i32, count: i32, l
     ensures { words.new ≡ written (length words.old) location parent edge count list.now }
 {
     zero(words);
-    sorting::copy(words, 4, list, 0, list.len());
-    words[0] = location;
-    words[1] = parent;
-    words[2] = edge;
-    words[3] = count;
+    words[..4].copy_from_slice(&[location, parent, edge, count]);
+    words[4..4 + list.len()].copy_from_slice(list);
 }
 
 // Keeps a state: writes its record behind the first k.
+// parent and edge are words of the record, −1 for state 0: an Option here would only be taken apart into them
 pub fn keep(
     area: &mut [i32],
     n: usize,
@@ -90,27 +81,14 @@ pub fn locate(area: &[i32], n: usize, i: usize) -> Place
     requires { (n ≤ 6) × Stands n area.now i }
     ensures { Places n area.now i result }
 {
-    let size = size(n);
-    let at = i * size;
-    let location = area[at];
-    let count = area[at + 3];
+    let at = i * size(n);
+    let location = area[at] as u32;
+    let vectors = area[at + 3] as usize;
     let from = at + 4;
-    let vectors = count as usize;
     Place {
-        location: location as u32,
+        location,
         from,
         to: from + vectors * (n + 1),
-    }
-}
-
-// Whether the answer is yes.
-fn is_yes(told: Told) -> bool
-    ensures { result ≡ is_yes told }
-{
-    match told {
-        Told::Yes => true,
-        Told::No => false,
-        Told::Refused(_) => false,
     }
 }
 
@@ -119,16 +97,8 @@ fn covers(area: &[i32], n: usize, i: usize, q: u32, list: &[i32]) -> bool
     requires { (n ≤ 6) × Stands n area.now i }
     ensures { result ≡ covers_by n q list.now (state_in n area.now i) }
 {
-    let p = locate(area, n, i);
-    let location = p.location;
-    if location == q {
-        let from = p.from;
-        let to = p.to;
-        let told = sets::included(n, list, &area[from..to]);
-        is_yes(told)
-    } else {
-        false
-    }
+    let place = locate(area, n, i);
+    place.location == q && sets::included(n, list, &area[place.from..place.to]).unwrap_or(false)
 }
 
 // Whether one of the first k states is in location q and includes the list.
@@ -136,12 +106,5 @@ pub fn covered(area: &[i32], n: usize, k: usize, q: u32, list: &[i32]) -> bool
     requires { (n ≤ 6) × Recorded n k area.now }
     ensures { result ≡ coveredBy n (states_in n k area.now) q list.now }
 {
-    let mut i = 0;
-    while i < k {
-        if covers(area, n, i, q, list) {
-            return true;
-        }
-        i += 1;
-    }
-    false
+    (0..k).any(|i| covers(area, n, i, q, list))
 }

@@ -1,5 +1,6 @@
-pub mod KindLaws
+pub mod EqualLaws
 pub mod LimitLaws
 pub mod EntryTrip
 pub mod BoundTrip
 pub mod BoundSize
+pub mod WriterLaws

@@ -1,33 +1,38 @@
 -- Laws of the limits, over the tests of the code.
-use mathlib.Core.Bool.{Bool, true, false}
+use mathlib.Core.Bool.{Bool, true≢false, ◌&&◌}
 use mathlib.Core.List.{List, [], ◌∷◌}
 use mathlib.Core.Logic.{inl, inr}
-use mathlib.Core.Path.{◌≡◌, refl, sym, ap, ◌∙◌, subst}
+use mathlib.Core.Path.{◌≡◌, sym, ap, ◌∙◌, subst}
 use Prim.Native.Nat.{ℕ, ◌≤◌, ◌<◌}
 use native.Mathlib.Omega.{arith}
-use borrow.Author.Tests.{eqb-true, eqb-false, eq-eqb}
-use lib.Dec.{T, eqb}
+use lib.Dec.{T}
 use lib.IntN.{ℤ, pos, negsuc, nat_abs}
-use lib.Signed.{lt_z, le_z, mag, non_neg}
+use lib.Pointwise.{pointwise}
+use lib.Signed.{le_z, non_neg}
 use denote.Enum.Declared.{tag_of}
 use types.Run.{OneOf}
 use mir.Syntax.{w32}
-use mir.Val.{Fits, SFits, of_z, to_z}
-use mir.Facts.{to_z-of_z}
+use mir.Val.{Fits, SFits, of_z}
+use Rattle.std.specs.Ordering.{int_eq}
+use Rattle.std.proofs.lemmas.Bool.Decides.{Decides-int_eq}
+use Rattle.std.proofs.lemmas.Slice.Eq.{slice_eq-Decides}
 use Rattle.numbers.specs.Integers.{hi, lo, ◌⊑◌}
 use Rattle.numbers.specs.Numbers.{Num, −∞, fin, Within}
 use Rattle.numbers.proofs.IntegerLaws.{zarith, hi_le, lo_le}
 use Rattle.numbers.proofs.WordLaws.{is_mark_lem, not_mark}
-use Rattle.numbers.proofs.Tells.{Tells, means}
+use Rattle.numbers.proofs.Tells.{Tells, means, both}
 use Rattle.codec.specs.Number.{folded}
-use Rattle.codec.specs.Arrays.{Packed}
 use Rattle.bounds.specs.declared.Kind.{Kind}
 use Rattle.bounds.specs.declared.Kind.TheVariants.{AtMost}
 use Rattle.bounds.specs.declared.Bound.{Bound}
 use Rattle.bounds.specs.contracts.Kind.{the_type}
 use Rattle.bounds.specs.Limits.{EntryLimits, KindLimits, BoundLimits}
-use Rattle.bounds.specs.Bounds.{no_half, no_bound}
+use Rattle.bounds.specs.Bounds.{no_half}
 use Rattle.bounds.specs.Written.{entry_number, kind_bytes, bound_bytes}
+
+-- the test a ≤ b
+tells_most : (a b : ℤ) → Tells (le_z a b) (a ⊑ b)
+tells_most a b = record { yes = λ e. record { le = omega (zarith, e) }; no = λ e w. omega (zarith, e, w.le) }
 
 -- ---- an entry of a half-space
 module _ (z : ℤ) (f : SFits w32 z) where
@@ -39,50 +44,29 @@ module _ (z : ℤ) (f : SFits w32 z) where
     near : EntryLimits z → (hi z ≤ 1000000) × (lo z ≤ 1000000)
     near w = (rw (not_mark f h).is at w).near
 
-    -- a word below −1,000,000 is not
-    pub entry_low : lt_z (to_z w32 (of_z w32 z)) (negsuc 999999) ≡ true → ¬ (EntryLimits z)
-    entry_low t w =
-        let low : lt_z z (negsuc 999999) ≡ true = rw (to_z-of_z f) at t in
-        omega (zarith, (near w).0, (near w).1, low)
-
-    -- one that is not below is, if it is at most 1,000,000
-    pub entry_high : lt_z (to_z w32 (of_z w32 z)) (negsuc 999999) ≡ false
-        → Tells (le_z (to_z w32 (of_z w32 z)) (pos 1000000)) (EntryLimits z)
-    entry_high t =
-        let low : lt_z z (negsuc 999999) ≡ false = rw (to_z-of_z f) at t in
-        rw (to_z-of_z f)
-        (record {
-          yes =
-              λ e.
-              rw (not_mark f h).is
-              (record { near = (hi_le z 1000000 (omega (zarith, e)), lo_le z 1000000 (omega (zarith, low))) });
-          no = λ e w. omega (zarith, (near w).0, (near w).1, e);
-        })
-
--- a word is 0 where its bits are
-pub zero_word : (z : ℤ) → SFits w32 z → Tells (eqb (of_z w32 z) 0) (z ≡ pos 0)
-zero_word z f =
-    record {
-      yes = λ e. sym (to_z-of_z f) ∙ ap (to_z w32) (eqb-true (of_z w32 z) 0 e);
-      no = λ e q. eqb-false (of_z w32 z) 0 e (ap (of_z w32) q);
-    }
+    -- another word is where it is from −1,000,000 to 1,000,000
+    pub entry_within : {r : Bool} → r ≡ (le_z (negsuc 999999) z && le_z z (pos 1000000)) → Tells r (EntryLimits z)
+    entry_within e =
+        rw e
+        (means inside (λ w. (record { le = omega (arith, near w) }, record { le = omega (arith, near w) }))
+        (both _ _ (tells_most (negsuc 999999) z) (tells_most z (pos 1000000))))
+      where
+        inside : (negsuc 999999 ⊑ z) × (z ⊑ pos 1000000) → EntryLimits z
+        inside (low, high) =
+            rw (not_mark f h).is
+            (record { near = (hi_le z 1000000 (omega (arith, high.le)), lo_le z 1000000 (omega (arith, low.le))) })
 
 -- ---- no half-space
-pub tells_none : {r : Bool} {half : List ℤ} → Tells r (Packed EntryLimits (pos 0) 14 0 half) → Tells r (half ≡ no_half)
-tells_none = means (λ w. w.unused) packed
-  where
-    packed : {half : List ℤ} → half ≡ no_half → Packed EntryLimits (pos 0) 14 0 half
-    packed e = record { few = omega arith; long = rw e refl; used = tt; unused = e }
+pub tells_none : (half : List ℤ) {r : Bool} → r ≡ pointwise int_eq half no_half → Tells r (half ≡ no_half)
+tells_none half {r} e =
+    let d = slice_eq-Decides Decides-int_eq half no_half r e in
+    record { yes = d.0; no = λ q s. true≢false (sym (d.1 s) ∙ q) }
 
 -- ---- a bound by its fields
 pub same_bound : {a b : Kind} {x v y w : ℕ} {k l : ℤ} {g h : List ℤ} → a ≡ b → x ≡ v → y ≡ w → k ≡ l → g ≡ h
     → ◌≡◌ {A = Bound} (record { x = x; y = y; k = k; half = g; kind = a })
     (record { x = v; y = w; k = l; half = h; kind = b })
 same_bound ea ex ey ek eh = cc
-
--- a bound with 0 everywhere is blank
-pub blank_of : (b : Bound) → b.kind ≡ AtMost → b.x ≡ 0 → b.y ≡ 0 → b.k ≡ pos 0 → b.half ≡ no_half → b ≡ no_bound
-blank_of b kind x y k half = same_bound kind x y k half
 
 -- a kind that is not the first
 pub not_at_most : (k : Kind) → OneOf (1 ∷ 2 ∷ 3 ∷ 4 ∷ []) (tag_of the_type k) → k ≡ AtMost → ⊥
@@ -93,16 +77,6 @@ not_at_most k h e = none (subst (λ (x : Kind). OneOf (1 ∷ 2 ∷ 3 ∷ 4 ∷ [
     none (inr (inl q)) = omega arith
     none (inr (inr (inl q))) = omega arith
     none (inr (inr (inr q))) = omega arith
-
--- a bound is in its limits where it is by its kind
-pub kind_fits : (n : ℕ) (b : Bound) {r : Bool} (kind : Kind) → b.kind ≡ kind → Tells r (KindLimits n b kind)
-    → Tells r (BoundLimits n b)
-kind_fits n b kind e =
-    means (λ w. record { fits = subst (KindLimits n b) (sym e) w }) (λ w. subst (KindLimits n b) e w.fits)
-
--- the test of a word that is 0
-pub word_zero : (z : ℤ) → mag z < 2147483648 → of_z w32 z ≡ 0 → z ≡ pos 0
-word_zero z f e = (zero_word z (record { sfits = f })).yes (eq-eqb (of_z w32 z) 0 e)
 
 -- ---- numbers in their limits are written
 pub abs_small : (z : ℤ) → negsuc 999999 ⊑ z → z ⊑ pos 1000000 → nat_abs z ≤ 1000000

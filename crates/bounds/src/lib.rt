@@ -2,14 +2,14 @@
 #![tactic(auto)]
 
 ghost use Rattle.std.specs.Prelude.{◌≡◌};
-ghost use Rattle.bounds.specs.Bounds.{no_bound, no_bounds};
+ghost use Rattle.bounds.specs.Bounds.{kind_number, no_bound, no_bounds};
 
 pub mod limits;
 pub mod reader;
 pub mod writer;
 
 // A bound's kind: x ≤ k, x ≥ k, x − y ≤ k, x − y ≥ k, or a whole half-space.
-#[derive(Clone, Copy)]
+#[derive(Clone, Copy, Debug, PartialEq, Eq)]
 pub enum Kind {
     AtMost,
     AtLeast,
@@ -18,8 +18,17 @@ pub enum Kind {
     HalfSpace,
 }
 
+impl Kind {
+    // The number that a kind is written as.
+    pub fn number(self) -> u32
+        ensures { result ≡ kind_number self }
+    {
+        self as u32
+    }
+}
+
 // A bound. What its kind leaves unused is 0.
-#[derive(Clone, Copy)]
+#[derive(Clone, Copy, Debug, PartialEq, Eq)]
 pub struct Bound {
     pub x: u32,
     pub y: u32,
@@ -29,7 +38,7 @@ pub struct Bound {
 }
 
 // A list of bounds. What is behind the first `count` is unused.
-#[derive(Clone, Copy)]
+#[derive(Clone, Copy, Debug, PartialEq, Eq)]
 pub struct Bounds {
     pub count: u32,
     pub items: [Bound; 8],
@@ -52,9 +61,8 @@ pub fn no_bound() -> Bound
 pub fn no_bounds() -> Bounds
     ensures { result ≡ no_bounds }
 {
-    let b = no_bound();
     Bounds {
         count: 0,
-        items: [b; 8],
+        items: [no_bound(); 8],
     }
 }

@@ -1,32 +1,14 @@
 // Bounds read from bytes. The first fault in reading order is the refusal.
-ghost use Rattle.std.specs.Prelude.{◌≡◌, ◌≤◌, ◌<◌, pos};
-ghost use Rattle.codec.specs.Form.{array};
-ghost use Rattle.codec.specs.Answers.{ReadsAt, Refuses};
-ghost use Rattle.bounds.specs.Bounds.{no_half, no_bound, no_bounds, kind_of, entry_of};
+ghost use Rattle.std.specs.Prelude.{◌≡◌, ◌≤◌, ◌<◌, MatchResult};
+ghost use Rattle.numbers.specs.declared.Refusal.TheVariants.{Model};
+ghost use Rattle.codec.specs.Answers.{Reads};
+ghost use Rattle.bounds.specs.Bounds.{kind_of, entry_of};
 ghost use Rattle.bounds.specs.Bounds.{entry_form, plain_form, differ_form, half_form};
 ghost use Rattle.bounds.specs.Bounds.{bound_form, bounds_form};
 
 use crate::{Bound, Bounds, Kind};
-use codec::{Number, Step};
+use codec::Reading;
 use numbers::{Refusal, Vector};
-
-#[derive(Clone, Copy)]
-pub struct HalfRead {
-    pub step: Step,
-    pub half: [i32; 14],
-}
-
-#[derive(Clone, Copy)]
-pub struct BoundRead {
-    pub step: Step,
-    pub bound: Bound,
-}
-
-#[derive(Clone, Copy)]
-pub struct BoundsRead {
-    pub step: Step,
-    pub bounds: Bounds,
-}
 
 // The entry of a half-space that a number stands for.
 fn entry_of(v: u32) -> i32
@@ -34,80 +16,46 @@ fn entry_of(v: u32) -> i32
     ensures { result ≡ entry_of v }
 {
     if v == 0 {
-        return Vector::MARK;
-    }
-    codec::unfold(v - 1)
-}
-
-// The entries of a half-space.
-fn read_half(s: &[u8], at: usize, count: usize) -> HalfRead
-    requires { count ≤ 14 }
-    ensures { ReadsAt s.now at (array 14 (pos 0) count entry_form) no_half result.step result.half }
-{
-    let mut half = [0; 14];
-    let mut i = 0;
-    let mut from = at;
-    while i < count {
-        let n = codec::read_below(s, from, 2000002);
-        let Number::Value { value, next } = n else {
-            return HalfRead {
-                step: Step::Refused(n.why()),
-                half: [0; 14],
-            };
-        };
-        half[i] = entry_of(value);
-        from = next;
-        i += 1;
-    }
-    HalfRead {
-        step: Step::At(from),
-        half,
+        Vector::MARK
+    } else {
+        codec::unfold(v - 1)
     }
 }
 
-// The kind that a number below 5 stands for.
-fn kind_of(v: u32) -> Kind
-    ensures { result ≡ kind_of v }
+// An entry of a half-space.
+#[tactic(auto, unfolding(crate::specs::Bounds::entry_form, codec::specs::Form::read_in))]
+fn read_entry(s: &[u8]) -> Reading<'_, i32>
+    ensures { Reads entry_form s.now result }
 {
-    match v {
-        0 => Kind::AtMost,
-        1 => Kind::AtLeast,
-        2 => Kind::DifferAtMost,
-        3 => Kind::DifferAtLeast,
-        _ => Kind::HalfSpace,
-    }
+    let (v, s) = codec::read_below(s, 2000002)?;
+    Ok((entry_of(v), s))
 }
 
-fn refused_bound(e: Refusal) -> BoundRead
-    ensures { Refuses no_bound e result.step result.bound }
-{
-    let bound = crate::no_bound();
-    BoundRead {
-        step: Step::Refused(e),
-        bound,
+// The kind of each number below 5.
+impl TryFrom<u32> for Kind {
+    type Error = Refusal;
+
+    fn try_from(v: u32) -> Result<Kind, Refusal>
+        ensures { MatchResult result (λ k. (v < 5) × (k ≡ kind_of v)) (λ e. (5 ≤ v) × (e ≡ Model)) }
+    {
+        match v {
+            0 => Ok(Kind::AtMost),
+            1 => Ok(Kind::AtLeast),
+            2 => Ok(Kind::DifferAtMost),
+            3 => Ok(Kind::DifferAtLeast),
+            4 => Ok(Kind::HalfSpace),
+            _ => Err(Refusal::Model),
+        }
     }
 }
 
 // Kinds 0 and 1: clock and k.
-fn read_plain(s: &[u8], at: usize, n: u32, kind: Kind) -> BoundRead
-    ensures { ReadsAt s.now at (plain_form n kind) no_bound result.step result.bound }
+#[tactic(auto, unfolding(crate::specs::Bounds::plain_form, codec::specs::Form::read_in))]
+fn read_plain(s: &[u8], n: u32, kind: Kind) -> Reading<'_, Bound>
+    ensures { Reads (plain_form n kind) s.now result }
 {
-    let a = codec::read_below(s, at, n);
-    let Number::Value {
-        value: x,
-        next: after_x,
-    } = a
-    else {
-        return refused_bound(a.why());
-    };
-    let b = codec::read_below(s, after_x, 1000001);
-    let Number::Value {
-        value: k,
-        next: end,
-    } = b
-    else {
-        return refused_bound(b.why());
-    };
+    let (x, s) = codec::read_below(s, n)?;
+    let (k, s) = codec::read_below(s, 1000001)?;
     let bound = Bound {
         x,
         y: 0,
@@ -115,68 +63,39 @@ fn read_plain(s: &[u8], at: usize, n: u32, kind: Kind) -> BoundRead
         half: [0; 14],
         kind,
     };
-    BoundRead {
-        step: Step::At(end),
-        bound,
-    }
+    Ok((bound, s))
 }
 
 // Kinds 2 and 3: two clocks that differ, and a folded k.
-fn read_differ(s: &[u8], at: usize, n: u32, kind: Kind) -> BoundRead
-    ensures { ReadsAt s.now at (differ_form n kind) no_bound result.step result.bound }
+#[tactic(auto, unfolding(crate::specs::Bounds::differ_form, codec::specs::Form::read_in))]
+fn read_differ(s: &[u8], n: u32, kind: Kind) -> Reading<'_, Bound>
+    ensures { Reads (differ_form n kind) s.now result }
 {
-    let a = codec::read_below(s, at, n);
-    let Number::Value {
-        value: x,
-        next: after_x,
-    } = a
-    else {
-        return refused_bound(a.why());
-    };
-    let b = codec::read_below(s, after_x, n);
-    let Number::Value {
-        value: y,
-        next: after_y,
-    } = b
-    else {
-        return refused_bound(b.why());
-    };
+    let (x, s) = codec::read_below(s, n)?;
+    let (y, s) = codec::read_below(s, n)?;
     if x == y {
-        return refused_bound(Refusal::Model);
+        return Err(Refusal::Model);
     }
-    let d = codec::read_below(s, after_y, 2000001);
-    let Number::Value {
-        value: v,
-        next: end,
-    } = d
-    else {
-        return refused_bound(d.why());
-    };
-    let k = codec::unfold(v);
+    let (v, s) = codec::read_below(s, 2000001)?;
     let bound = Bound {
         x,
         y,
-        k,
+        k: codec::unfold(v),
         half: [0; 14],
         kind,
     };
-    BoundRead {
-        step: Step::At(end),
-        bound,
-    }
+    Ok((bound, s))
 }
 
 // Kind 4: a whole half-space.
-fn read_whole(s: &[u8], at: usize, n: u32) -> BoundRead
+#[tactic(auto, unfolding(crate::specs::Bounds::half_form, codec::specs::Form::read_in))]
+fn read_whole(s: &[u8], n: u32) -> Reading<'_, Bound>
     requires { n ≤ 6 }
-    ensures { ReadsAt s.now at (half_form n) no_bound result.step result.bound }
+    ensures { Reads (half_form n) s.now result }
 {
-    let h = read_half(s, at, ((n + 1) * 2) as usize);
-    let step = h.step;
-    let half = h.half;
-    let Step::At(end) = step else {
-        return refused_bound(step.why());
-    };
+    let mut half = [0; 14];
+    let count = ((n + 1) * 2) as usize;
+    let s = codec::read_items(s, &mut half[..count], read_entry)?;
     let bound = Bound {
         x: 0,
         y: 0,
@@ -184,77 +103,32 @@ fn read_whole(s: &[u8], at: usize, n: u32) -> BoundRead
         half,
         kind: Kind::HalfSpace,
     };
-    BoundRead {
-        step: Step::At(end),
-        bound,
-    }
+    Ok((bound, s))
 }
 
 // A bound over n clocks.
-fn read_bound(s: &[u8], at: usize, n: u32) -> BoundRead
+#[tactic(auto, unfolding(crate::specs::Bounds::bound_form, codec::specs::Form::read_in))]
+fn read_bound(s: &[u8], n: u32) -> Reading<'_, Bound>
     requires { n ≤ 6 }
-    ensures { ReadsAt s.now at (bound_form n) no_bound result.step result.bound }
+    ensures { Reads (bound_form n) s.now result }
 {
-    let a = codec::read_below(s, at, 5);
-    let Number::Value {
-        value: v,
-        next: after,
-    } = a
-    else {
-        return refused_bound(a.why());
-    };
-    let kind = kind_of(v);
+    let (v, s) = codec::read_number(s)?;
+    let kind = Kind::try_from(v)?;
     match kind {
-        Kind::AtMost => read_plain(s, after, n, kind),
-        Kind::AtLeast => read_plain(s, after, n, kind),
-        Kind::DifferAtMost => read_differ(s, after, n, kind),
-        Kind::DifferAtLeast => read_differ(s, after, n, kind),
-        Kind::HalfSpace => read_whole(s, after, n),
-    }
-}
-
-fn refused_bounds(e: Refusal) -> BoundsRead
-    ensures { Refuses no_bounds e result.step result.bounds }
-{
-    let bounds = crate::no_bounds();
-    BoundsRead {
-        step: Step::Refused(e),
-        bounds,
+        Kind::AtMost | Kind::AtLeast => read_plain(s, n, kind),
+        Kind::DifferAtMost | Kind::DifferAtLeast => read_differ(s, n, kind),
+        Kind::HalfSpace => read_whole(s, n),
     }
 }
 
 // A list of bounds over n clocks.
-pub fn read_bounds(s: &[u8], at: usize, n: u32) -> BoundsRead
+#[tactic(auto, unfolding(crate::specs::Bounds::bounds_form, codec::specs::Form::read_in))]
+pub fn read_bounds(s: &[u8], n: u32) -> Reading<'_, Bounds>
     requires { n ≤ 6 }
-    ensures { ReadsAt s.now at (bounds_form n) no_bounds result.step result.bounds }
+    ensures { Reads (bounds_form n) s.now result }
 {
-    let a = codec::read_below(s, at, 9);
-    let Number::Value {
-        value: count,
-        next: after,
-    } = a
-    else {
-        return refused_bounds(a.why());
-    };
-    let blank = crate::no_bound();
-    let mut items = [blank; 8];
-    let many = count as usize;
-    let mut i = 0;
-    let mut from = after;
-    while i < many {
-        let r = read_bound(s, from, n);
-        let step = r.step;
-        let one = r.bound;
-        let Step::At(next) = step else {
-            return refused_bounds(step.why());
-        };
-        items[i] = one;
-        from = next;
-        i += 1;
-    }
-    let bounds = Bounds { count, items };
-    BoundsRead {
-        step: Step::At(from),
-        bounds,
-    }
+    let (count, s) = codec::read_below(s, 9)?;
+    let mut items = [crate::no_bound(); 8];
+    let s = codec::read_items(s, &mut items[..count as usize], |s| read_bound(s, n))?;
+    Ok((Bounds { count, items }, s))
 }

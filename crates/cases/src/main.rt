@@ -1,6 +1,6 @@
 // Runs the cases of standard input, one to a line, and prints the answer of each behind its label.
-// A line is `label: call numbers | row | row`; the heads of lists.rt, models.rt and walking.rt say which calls there are.
-// A line that is empty or begins with # is passed over.
+// A line is `label: call numbers | row | row`; the heads of lists.rt, models.rt and walking.rt say which calls there
+// are. A line that is empty or begins with # is passed over.
 #![tactic(auto)]
 
 use std::io;
@@ -15,58 +15,60 @@ mod walking; // walking.rt: walks over a lent area
 // The most bytes of standard input, and one more.
 const MOST: usize = 131072;
 
+// Why a line has no answer: it is not as it must be, or nothing can be printed.
+#[derive(Debug, Drop)]
+pub enum CaseError {
+    Unreadable,
+    Output(io::Error),
+}
+
+impl From<io::Error> for CaseError {
+    fn from(e: io::Error) -> CaseError {
+        CaseError::Output(e)
+    }
+}
+
 fn main(rt: HostRuntime) -> io::Result<()> {
     let mut input = [0u8; MOST];
     let n = read(&mut rt.stdin(), &mut input)?;
     if MOST <= n {
-        return show::print(&rt, b"too many cases\n");
+        return println!(rt; "too many cases");
     }
-    lines(&rt, &input[0..n])
-}
-
-// Reads the input until it ends or the buffer is full, and answers how many bytes there are.
-fn read(input: &mut impl Read, buffer: &mut [u8]) -> io::Result<usize> {
-    let most = buffer.len() as u64;
-    let n = io::copy(&mut input.by_ref().take(most), &mut &mut *buffer)?;
-    Ok(n as usize)
-}
-
-fn lines(rt: &impl Print, input: &[u8]) -> io::Result<()> {
-    let mut at = 0;
-    while at < input.len() {
-        let end = text::until(input, at, b'\n');
-        line(rt, &input[at..end])?;
-        at = end + 1;
+    for s in input[..n].split(|b| *b == b'\n') {
+        line(&rt, s)?;
     }
     Ok(())
 }
 
-// Prints a line's label, and what its call answers.
-fn line(rt: &impl Print, s: &[u8]) -> io::Result<()> {
-    if s.len() == 0 {
-        return Ok(());
-    }
-    if s[0] == b'#' {
-        return Ok(());
-    }
-    let colon = text::until(s, 0, b':');
-    show::print(rt, &s[0..colon])?;
-    show::print(rt, b": ")?;
-    let name = text::next_name(s, colon, b':');
-    let from = name.from;
-    let to = name.to;
-    if !call(rt, &s[from..to], s, to)? {
-        show::print(rt, b"UNREADABLE")?;
-    }
-    show::print(rt, b"\n")
+// Reads the input until it ends or the buffer is full, and answers how many bytes there are.
+fn read(input: &mut impl Read, mut buffer: &mut [u8]) -> io::Result<usize> {
+    let most = buffer.len() as u64;
+    let n = io::copy(&mut input.by_ref().take(most), &mut buffer)?;
+    Ok(n as usize)
 }
 
-// Runs the call of that name on what stands behind it in the line. Answers whether the line can be read.
-fn call(rt: &impl Print, name: &[u8], s: &[u8], at: usize) -> io::Result<bool> {
-    match text::place(name, b"read write walk") {
-        0 => models::read(rt, s, at),
-        1 => models::write(rt, s, at),
-        2 => walking::run(rt, s, at),
-        _ => lists::run(rt, name, s, at),
+// Prints a line's label, and what its call answers.
+fn line(rt: &impl Print, s: &[u8]) -> io::Result<()> {
+    if matches!(s, [] | [b'#', ..]) {
+        return Ok(());
+    }
+    let (label, rest) = text::cut(s, |b| *b == b':');
+    rt.write_all(label)?;
+    print!(rt; ": ")?;
+    match call(rt, rest) {
+        Ok(()) => println!(rt),
+        Err(CaseError::Unreadable) => println!(rt; "UNREADABLE"),
+        Err(CaseError::Output(e)) => Err(e),
+    }
+}
+
+// Runs the call that stands behind the label.
+fn call(rt: &impl Print, s: &[u8]) -> Result<(), CaseError> {
+    let (name, rest) = text::name(text::behind(s, b':')?);
+    match name {
+        b"read" => models::read(rt, rest),
+        b"write" => models::write(rt, rest),
+        b"walk" => walking::run(rt, rest),
+        _ => lists::run(rt, name, rest),
     }
 }

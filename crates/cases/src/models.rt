@@ -1,12 +1,10 @@
-// Reading and writing of models: `read | bytes`, and `write room | bytes | change | change`. A change names a field of the
-// model that was read, and gives its numbers: `clocks k`, `depth k`, `target k`, `invariant i count`, `resets i set`; of
-// the target list `bound i kind x y k` and `entry i j word`. An index counts round its list.
-ghost use Rattle.std.specs.Prelude.{◌<◌};
-
-use crate::{show, text};
-use bounds::{Bound, Bounds, Kind};
-use codec::Step;
-use model::{Model, Written};
+// Reading and writing of models: `read | bytes`, and `write room | bytes | change | change`. A change names a field of
+// the model that was read, and gives its numbers: `clocks k`, `depth k`, `target k`, `invariant i count`,
+// `resets i set`; of the target list `bound i kind x y k` and `entry i j word`. An index counts round its list.
+use crate::{CaseError, show, text};
+use bounds::{Bound, Kind};
+use model::Model;
+use numbers::Refusal;
 use std::io;
 
 // What each byte of an area is before a call.
@@ -15,100 +13,136 @@ const BLANK: u8 = 7;
 // The bytes of the area that a changed model is written to.
 const MOST: usize = 64;
 
-// A change: which field it names, its numbers, and where it ends.
+// What a field of a model becomes; an item's place in its list comes first.
 #[derive(Clone, Copy)]
-struct Change {
-    field: usize,
-    numbers: [i32; 5],
-    end: usize,
+enum Change {
+    Clocks(u32),
+    Depth(u32),
+    Target(u32),
+    Invariant(usize, u32),
+    Resets(usize, u32),
+    Bound(usize, Bound),
+    Entry(usize, usize, i32),
 }
 
-// Reads bytes, and writes what was read. Answers whether the line can be read.
-pub fn read(rt: &impl Print, s: &[u8], at: usize) -> io::Result<bool> {
-    let mut bytes = [0u8; 1024];
-    let r = text::next_bytes(s, at, &mut bytes);
-    if r.end != s.len() {
-        return Ok(false);
+impl Change {
+    // The change of the field of that name.
+    fn new(name: &[u8], numbers: [i32; 5]) -> Result<Change, CaseError> {
+        let [k, l, word, ..] = numbers;
+        let (k, l) = (text::natural(k), text::natural(l));
+        match name {
+            b"clocks" => Ok(Change::Clocks(k)),
+            b"depth" => Ok(Change::Depth(k)),
+            b"target" => Ok(Change::Target(k)),
+            b"invariant" => Ok(Change::Invariant(k as usize, l)),
+            b"resets" => Ok(Change::Resets(k as usize, l)),
+            b"bound" => Ok(Change::Bound(k as usize, bound(numbers))),
+            b"entry" => Ok(Change::Entry(k as usize, l as usize, word)),
+            _ => Err(CaseError::Unreadable),
+        }
     }
-    let k = r.count;
-    rewrite(rt, &bytes[0..k])?;
-    Ok(true)
+
+    // Makes the change in a model.
+    fn make(self, m: &mut Model) {
+        match self {
+            Change::Clocks(k) => m.clocks = k,
+            Change::Depth(k) => m.depth = k,
+            Change::Target(k) => m.target = k,
+            Change::Invariant(i, count) => m.invariants[i % 32].count = count,
+            Change::Resets(i, set) => m.steps[i % 64].resets = set,
+            Change::Bound(i, b) => m.list.items[i % 8] = b,
+            Change::Entry(i, j, word) => m.list.items[i % 8].half[j % 14] = word,
+        }
+    }
+}
+
+// Reads bytes, and writes what was read.
+pub fn read(rt: &impl Print, s: &[u8]) -> Result<(), CaseError> {
+    let mut bytes = [0u8; 1024];
+    let (bytes, rest) = text::next_row(s, &mut bytes)?;
+    text::end(rest)?;
+    rewrite(rt, bytes)?;
+    Ok(())
 }
 
 fn rewrite(rt: &impl Print, bytes: &[u8]) -> io::Result<()> {
-    let r = model::read(bytes);
-    let step = r.step;
-    if let Step::Refused(e) = step {
-        return show::refused(rt, b"REFUSED", e);
-    }
-    let m = r.model;
     let mut out = [BLANK; 1024];
-    back(rt, model::write(m, &mut out), &out, bytes)
+    match model::read(bytes) {
+        Ok(m) => back(rt, model::write(&m, &mut out), &out, bytes),
+        Err(e) => show::refused(rt, "REFUSED", e),
+    }
 }
 
 // Prints whether a model was written as the same bytes.
-fn back(rt: &impl Print, answer: Written, out: &[u8], bytes: &[u8]) -> io::Result<()> {
-    let Written::Bytes(n) = answer else {
-        return show::print(rt, b"MODEL, not written");
+fn back(
+    rt: &impl Print,
+    answer: Result<usize, Refusal>,
+    out: &[u8],
+    bytes: &[u8],
+) -> io::Result<()> {
+    let Ok(n) = answer else {
+        return print!(rt; "MODEL, not written");
     };
-    show::counted(rt, b"MODEL", n)?;
-    if starts(out, n, bytes) {
-        show::print(rt, b" bytes, the same")
+    let which = if out.get(..n) == Some(bytes) {
+        "the same"
     } else {
-        show::print(rt, b" bytes, others")
-    }
+        "others"
+    };
+    print!(rt; "MODEL {n} bytes, {which}")
 }
 
-// Whether the first n bytes of an area are those bytes.
-fn starts(out: &[u8], n: usize, bytes: &[u8]) -> bool {
-    if out.len() < n {
-        return false;
-    }
-    &out[0..n] == bytes
-}
-
-// Reads bytes, changes the model, and writes it. Answers whether the line can be read.
-pub fn write(rt: &impl Print, s: &[u8], at: usize) -> io::Result<bool> {
-    let mut numbers = [0i32; 1];
-    let h = text::next_row(s, at, b' ', &mut numbers);
+// Reads bytes, changes the model, and writes it.
+pub fn write(rt: &impl Print, s: &[u8]) -> Result<(), CaseError> {
+    let mut room = [0];
     let mut bytes = [0u8; 1024];
-    let r = text::next_bytes(s, h.end, &mut bytes);
-    let a = next_change(s, r.end);
-    let b = next_change(s, a.end);
-    if b.end != s.len() {
-        return Ok(false);
-    }
-    let k = r.count;
-    write_first(rt, &bytes[0..k], a, b, text::size(numbers[0]))
+    let (_, rest) = text::row(s, &mut room);
+    let (bytes, rest) = text::next_row(rest, &mut bytes)?;
+    let (a, rest) = next_change(rest)?;
+    let (b, rest) = next_change(rest)?;
+    text::end(rest)?;
+    write_first(rt, bytes, [a, b], text::size(room[0]))
 }
 
-// Writes the model of the bytes, with two changes, to the first bytes of an area.
+// The model that is changed where the bytes are refused: every number of it is 0.
+fn no_model() -> Model {
+    Model {
+        clocks: 0,
+        locations: 0,
+        edges: 0,
+        initial: 0,
+        invariants: [bounds::no_bounds(); 32],
+        steps: [model::no_edge(); 64],
+        target: 0,
+        list: bounds::no_bounds(),
+        depth: 0,
+    }
+}
+
+// Writes the model of the bytes, with the changes, to the first bytes of an area.
 fn write_first(
     rt: &impl Print,
     bytes: &[u8],
-    a: Change,
-    b: Change,
+    changes: [Option<Change>; 2],
     room: usize,
-) -> io::Result<bool> {
-    if MOST < room {
-        return Ok(false);
-    }
-    let r = model::read(bytes);
-    let m = changed(changed(r.model, a), b);
+) -> Result<(), CaseError> {
     let mut area = [BLANK; MOST];
-    let w = model::write(m, &mut area[0..room]);
-    written(rt, w, &area)?;
-    Ok(true)
+    let lent = area.get_mut(..room).ok_or(CaseError::Unreadable)?;
+    let mut m = model::read(bytes).unwrap_or(no_model());
+    for change in changes.into_iter().flatten() {
+        change.make(&mut m);
+    }
+    written(rt, model::write(&m, lent), &area)?;
+    Ok(())
 }
 
-fn written(rt: &impl Print, answer: Written, area: &[u8; MOST]) -> io::Result<()> {
+fn written(rt: &impl Print, answer: Result<usize, Refusal>, area: &[u8]) -> io::Result<()> {
     match answer {
-        Written::Bytes(n) => {
-            show::counted(rt, b"BYTES", n)?;
+        Ok(n) => {
+            print!(rt; "BYTES {n}")?;
             unchanged(rt, area, n)
         }
-        Written::Refused(e) => {
-            show::refused(rt, b"REFUSED", e)?;
+        Err(e) => {
+            show::refused(rt, "REFUSED", e)?;
             unchanged(rt, area, 0)
         }
     }
@@ -116,110 +150,32 @@ fn written(rt: &impl Print, answer: Written, area: &[u8; MOST]) -> io::Result<()
 
 // Prints whether the area from a place on is as at entry.
 fn unchanged(rt: &impl Print, area: &[u8], from: usize) -> io::Result<()> {
-    let i = text::past(area, from, BLANK);
-    if i < area.len() {
-        show::counted(rt, b", changed behind", i)
-    } else {
-        show::counted(rt, b", unchanged from", from)
+    let mut behind = area.iter().enumerate().skip(from);
+    match behind.find(|(_, b)| **b != BLANK) {
+        Some((i, _)) => print!(rt; ", changed behind {i}"),
+        None => print!(rt; ", unchanged from {from}"),
     }
 }
 
-// The change that stands behind the next bar, if one does; if none does, it names no field. One that names another field ends nowhere.
-fn next_change(s: &[u8], at: usize) -> Change {
-    let name = text::next_name(s, at, b'|');
-    let from = name.from;
-    let to = name.to;
-    let mut numbers = [0i32; 5];
-    let r = text::next_row(s, to, b' ', &mut numbers);
-    let field = text::place(
-        &s[from..to],
-        b"clocks depth target invariant resets bound entry",
-    );
-    if named(field, from, to) {
-        Change {
-            field,
-            numbers,
-            end: r.end,
-        }
-    } else {
-        Change {
-            field,
-            numbers,
-            end: 0,
-        }
+// The change that stands behind the next bar, if one does.
+fn next_change(s: &[u8]) -> Result<(Option<Change>, &[u8]), CaseError> {
+    let (name, rest) = text::name(text::behind(s, b'|')?);
+    let mut numbers = [0; 5];
+    let (_, rest) = text::row(rest, &mut numbers);
+    if name.is_empty() {
+        return Ok((None, rest));
     }
-}
-
-// Whether a name that is not empty is that of a field.
-fn named(field: usize, from: usize, to: usize) -> bool {
-    if from < to { field < 7 } else { true }
-}
-
-// The model with a change made. The fields have the numbers that `next_change` gives them.
-fn changed(mut m: Model, c: Change) -> Model {
-    let numbers = c.numbers;
-    let k = text::natural(numbers[0]);
-    let l = text::natural(numbers[1]);
-    let i = k as usize;
-    let field = c.field;
-    match field {
-        0 => m.clocks = k,
-        1 => m.depth = k,
-        2 => m.target = k,
-        3 => {
-            let mut list = m.invariants[i % 32];
-            list.count = l;
-            m.invariants[i % 32] = list;
-        }
-        4 => {
-            let mut edge = m.steps[i % 64];
-            edge.resets = l;
-            m.steps[i % 64] = edge;
-        }
-        _ => {
-            let list = m.list;
-            let new = changed_list(list, field, i % 8, numbers);
-            m.list = new;
-        }
-    }
-    m
-}
-
-// The target list with a change of bound i made.
-fn changed_list(mut list: Bounds, field: usize, i: usize, numbers: [i32; 5]) -> Bounds
-    requires { i < 8 }
-{
-    if field == 5 {
-        let b = bound(numbers);
-        list.items[i] = b;
-    }
-    if field == 6 {
-        let j = text::natural(numbers[1]) as usize;
-        let mut b = list.items[i];
-        b.half[j % 14] = numbers[2];
-        list.items[i] = b;
-    }
-    list
+    Ok((Some(Change::new(name, numbers)?), rest))
 }
 
 // The bound of a kind, x, y and k, in words 1 to 4; its entries are 0.
 fn bound(numbers: [i32; 5]) -> Bound {
-    let half = [0; 14];
+    let [_, which, x, y, k] = numbers;
     Bound {
-        x: text::natural(numbers[2]),
-        y: text::natural(numbers[3]),
-        k: numbers[4],
-        half,
-        kind: kind(numbers[1]),
-    }
-}
-
-fn kind(k: i32) -> Kind {
-    match k {
-        0 => Kind::AtMost,
-        1 => Kind::AtLeast,
-        2 => Kind::DifferAtMost,
-        3 => Kind::DifferAtLeast,
-        _ => Kind::HalfSpace,
+        x: text::natural(x),
+        y: text::natural(y),
+        k,
+        half: [0; 14],
+        kind: Kind::try_from(which.cast_unsigned()).unwrap_or(Kind::HalfSpace),
     }
 }

@@ -1,58 +1,34 @@
 // Walks over a lent area: `walk words | bytes`.
 use crate::show::FILL;
-use crate::{show, text};
+use crate::{CaseError, show, text};
+use numbers::Refusal;
 use runs::Verdict;
 use std::io;
 
 // The words of the largest area: 65 records over 6 clocks.
 const MOST: usize = 14820;
 
-// Answers whether the line can be read.
-pub fn run(rt: &impl Print, s: &[u8], at: usize) -> io::Result<bool> {
-    let mut numbers = [0i32; 1];
-    let h = text::next_row(s, at, b' ', &mut numbers);
+// Walks a model in the first words of an area.
+pub fn run(rt: &impl Print, s: &[u8]) -> Result<(), CaseError> {
+    let mut words = [0];
     let mut bytes = [0u8; 1024];
-    let m = text::next_bytes(s, h.end, &mut bytes);
-    if m.end != s.len() {
-        return Ok(false);
-    }
-    let k = m.count;
-    walk_first(rt, &bytes[0..k], text::size(numbers[0]))
-}
-
-// Walks the model in the first words of an area.
-fn walk_first(rt: &impl Print, model: &[u8], words: usize) -> io::Result<bool> {
-    show::number(rt, words)?;
-    show::print(rt, b" words, ")?;
-    if MOST < words {
-        return Ok(false);
-    }
+    let (_, rest) = text::row(s, &mut words);
+    let (bytes, rest) = text::next_row(rest, &mut bytes)?;
+    text::end(rest)?;
+    let words = text::size(words[0]);
+    print!(rt; "{words} words, ")?;
     let mut area = [FILL; MOST];
-    let lent = &mut area[0..words];
-    verdict(rt, walk::walk(model, &mut *lent))?;
+    let lent = area.get_mut(..words).ok_or(CaseError::Unreadable)?;
+    verdict(rt, walk::walk(bytes, lent))?;
     show::states(rt, lent)?;
-    Ok(true)
+    Ok(())
 }
 
-fn verdict(rt: &impl Print, answer: Verdict) -> io::Result<()> {
+fn verdict(rt: &impl Print, answer: Result<Verdict, Refusal>) -> io::Result<()> {
     match answer {
-        Verdict::Reached { edges, kept, tried } => {
-            show::counted(rt, b"REACHED", edges)?;
-            counts(rt, kept, tried)
-        }
-        Verdict::Never { kept, tried } => {
-            show::print(rt, b"NEVER")?;
-            counts(rt, kept, tried)
-        }
-        Verdict::Open { depth, kept, tried } => {
-            show::counted(rt, b"OPEN", depth)?;
-            counts(rt, kept, tried)
-        }
-        Verdict::Refused(e) => show::refused(rt, b"REFUSED", e),
+        Ok(Verdict::Reached { edges, kept, tried }) => print!(rt; "REACHED {edges} {kept} {tried}"),
+        Ok(Verdict::Never { kept, tried }) => print!(rt; "NEVER {kept} {tried}"),
+        Ok(Verdict::Open { depth, kept, tried }) => print!(rt; "OPEN {depth} {kept} {tried}"),
+        Err(e) => show::refused(rt, "REFUSED", e),
     }
-}
-
-fn counts(rt: &impl Print, kept: usize, tried: usize) -> io::Result<()> {
-    show::count(rt, kept)?;
-    show::count(rt, tried)
 }

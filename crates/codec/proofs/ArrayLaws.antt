@@ -1,15 +1,17 @@
 -- Reading into an array, item by item.
 use mathlib.Core.List.{List, [], ◌∷◌, ◌++◌, append_assoc, append-nil}
-use mathlib.Core.Path.{◌≡◌, refl, sym, ap, ◌∙◌, subst}
-use Prim.Native.Nat.{ℕ, suc, ◌+◌, ◌-◌, ◌≤◌, ◌<◌}
+use mathlib.Core.Path.{◌≡◌, refl, sym, ap, ◌∙◌}
+use Prim.Native.Nat.{ℕ, zero, suc, ◌+◌, ◌-◌, ◌≤◌, ◌<◌}
 use native.Mathlib.Nat.{sub-zero}
 use native.Mathlib.Numerals.{add-one}
 use native.Mathlib.Omega.{arith}
-use lib.ListN.{length, set, take, drop, replicate, length-set, length-replicate, take-append-drop}
-use lib.Seq.{take-suc-set, drop-set-lt, drop-drop, length-take-le}
+use lib.ListN.{length, set, take, drop, replicate, length-set, length-replicate}
+use lib.Seq.{take-suc-set, length-take-le, take-length}
 use Rattle.codec.specs.Number.{Got, got, refused}
-use Rattle.codec.specs.Form.{Form, done, read_in, ◌>>=◌, many, padded, array}
-use Rattle.codec.proofs.FormLaws.{Finds, onto, after, stops, finished}
+use Rattle.codec.specs.Form.{Form, done, read_in, many, padded, array}
+use Rattle.std.proofs.lemmas.List.{drop-replicate}
+use Rattle.codec.proofs.FormLaws.{onto, read_then, finished, first_gave, first_refused}
+use Rattle.codec.proofs.FormTrip.{same_got, parted}
 
 -- items put before those that are read
 abbrev pub behind : {A : Type 0} → List A → Got (List A) → Got (List A)
@@ -24,81 +26,111 @@ module _ {A : Type 0} where
   behind_more xs a (got ys t) = ap (λ (l : List A). got l t) (sym (append_assoc xs (a ∷ []) ys))
   behind_more xs a (refused e) = refl
 
-  many_next : (F : Form A) (l : ℕ) {s t : List ℕ} {a : A} → Finds F s (got a t)
+  many_next : (F : Form A) (l : ℕ) (s : List ℕ) {t : List ℕ} {a : A} → got a t ≡ read_in F s
       → read_in (many (suc l) F) s ≡ behind (a ∷ []) (read_in (many l F) t)
+  unfolding many read_in
+  many_next F l s {t} {a} e = first_gave F _ s e ∙ read_then (many l F) (λ rest. done (a ∷ rest)) t
+
+  many_stop : (F : Form A) (l : ℕ) (s : List ℕ) {e : ℕ} → refused e ≡ read_in F s
+      → read_in (many (suc l) F) s ≡ refused e
   unfolding many
-  many_next F l {s} {t} {a} f = (after F _ f (by_rest (read_in (many l F) t) refl)).is
-    where
-      by_rest : (g : Got (List A)) → read_in (many l F) t ≡ g
-          → Finds (many l F >>= λ rest. done (a ∷ rest)) t (behind (a ∷ []) g)
-      by_rest (got ys u) e = after (many l F) _ (record { is = e }) finished
-      by_rest (refused e') e = stops (many l F) _ (record { is = e })
+  many_stop F l s e = first_refused F _ s e
 
-  many_stop : (F : Form A) (l : ℕ) {s : List ℕ} {e : ℕ} → Finds F s (refused e) → read_in (many (suc l) F) s ≡
-      refused e
-  unfolding many
-  many_stop F l f = (stops F _ f).is
+-- the first i items of a list are read into it, and `rest` is left to read
+pub record Passing {A : Type 0} (F : Form A) (start : List ℕ) (count : ℕ) (xs : List A) (i : ℕ) (rest : List ℕ) : Type 0
+  where
+    pub within : i ≤ count
+    pub long : length xs ≡ count
+    pub same : read_in (many count F) start ≡ behind (take i xs) (read_in (many (count - i) F) rest)
 
--- the first i of `count` items stand in the array, the rest of it is blank, and `rest` is left to read
-pub record Filling {A : Type 0} (F : Form A) (blank : A) (size count : ℕ) (start : List ℕ) (xs : List A) (i : ℕ)
-    (rest : List ℕ) : Type 0 where
-  pub within : i ≤ count
-  pub long : length xs ≡ size
-  pub empty : drop i xs ≡ replicate (size - i) blank
-  pub same : read_in (many count F) start ≡ behind (take i xs) (read_in (many (count - i) F) rest)
-
-module _ {A : Type 0} {F : Form A} {blank : A} {size count : ℕ} {start : List ℕ} where
+module _ {A : Type 0} {F : Form A} {start : List ℕ} {count : ℕ} where
   -- before the first item
-  pub fill_start : Filling F blank size count start (replicate size blank) 0 start
-  fill_start =
+  pub pass_start : {xs : List A} → length xs ≡ count → Passing F start count xs 0 start
+  pass_start e =
       record {
         within = omega arith;
-        long = length-replicate size blank;
-        empty = rw sub-zero refl;
+        long = e;
         same = rw sub-zero (sym (behind_none (read_in (many count F) start)));
       }
 
-  module _ {xs : List A} {i : ℕ} {rest : List ℕ} (w : Filling F blank size count start xs i rest) where
+  module _ {xs : List A} {i : ℕ} {rest : List ℕ} (w : Passing F start count xs i rest) where
     -- one item more
-    pub fill_step : {a : A} {t : List ℕ} → count ≤ size → i < count → Finds F rest (got a t)
-        → Filling F blank size count start (set xs i a) (i + 1) t
-    fill_step {a} {t} c l f =
+    pub pass_step : {a : A} {t : List ℕ} → i < count → got a t ≡ read_in F rest
+        → Passing F start count (set xs i a) (i + 1) t
+    pass_step {a} {t} l f =
         let left : count - i ≡ suc (count - (i + 1)) = omega arith in
-        let free : size - i ≡ suc (size - (i + 1)) = omega arith in
-        let here : i < length xs = omega (arith, w.long) in
-        let passed : take (i + 1) (set xs i a) ≡ take i xs ++ (a ∷ []) = rw add-one (take-suc-set xs i a here) in
-        let blanks : replicate (size - i) blank ≡ replicate (suc (size - (i + 1))) blank = rw free refl in
+        let passed : take (i + 1) (set xs i a) ≡ take i xs ++ (a ∷ []) =
+        rw add-one (take-suc-set xs i a (omega (arith, w.long))) in
         let read : read_in (many (count - i) F) rest ≡ behind (a ∷ []) (read_in (many (count - (i + 1)) F) t) =
-        rw left (many_next F (count - (i + 1)) f) in
+        rw left (many_next F (count - (i + 1)) rest f) in
         record {
           within = omega arith;
           long = length-set xs i a ∙ w.long;
-          empty =
-              drop-set-lt (i + 1) xs i a (omega arith) ∙ sym (drop-drop 1 i xs) ∙ ap (drop 1) w.empty
-              ∙ ap (drop 1) blanks;
           same =
               w.same ∙ ap (behind (take i xs)) read ∙ behind_more (take i xs) a (read_in (many (count - (i + 1)) F) t)
               ∙ ap (λ (ys : List A). behind ys (read_in (many (count - (i + 1)) F) t)) (sym passed);
         }
 
     -- an item is refused
-    pub fill_stop : {e : ℕ} → i < count → Finds F rest (refused e) → Finds (array size blank count F) start
-        (refused e)
-    fill_stop {e} l f =
+    pub pass_stop : {e : ℕ} → i < count → refused e ≡ read_in F rest → refused e ≡ read_in (many count F) start
+    pass_stop {e} l f =
         let left : count - i ≡ suc (count - (i + 1)) = omega arith in
-        let none : read_in (many (count - i) F) rest ≡ refused e = rw left (many_stop F (count - (i + 1)) f) in
-        stops (many count F) _ (record { is = w.same ∙ ap (behind (take i xs)) none })
+        let none : read_in (many (count - i) F) rest ≡ refused e = rw left (many_stop F (count - (i + 1)) rest f) in
+        sym (w.same ∙ ap (behind (take i xs)) none)
 
     -- after the last item
-    pub fill_done : count ≤ size → count ≤ i → Finds (array size blank count F) start (got xs rest)
+    pub pass_done : count ≤ i → got xs rest ≡ read_in (many count F) start
     unfolding many read_in
-    fill_done c l =
-        let none : count - i ≡ 0 = omega (arith, w.within) in
+    pass_done l =
+        let none : count - i ≡ 0 = omega arith in
+        let whole : i ≡ length xs = omega (arith, w.long, w.within) in
         let all : read_in (many count F) start ≡ got (take i xs ++ []) rest = w.same ∙ rw none refl in
-        let long : length (take i xs) ≡ i = length-take-le i xs (omega (arith, w.within, w.long)) in
-        let whole : padded size blank (take i xs) ≡ xs =
-        ap (λ (n : ℕ). take i xs ++ replicate (size - n) blank) long ∙ ap (◌++◌ (take i xs)) (sym w.empty)
-        ∙ take-append-drop i xs in
-        subst (λ (ys : List A). Finds (array size blank count F) start (got ys rest)) whole
-        (after (many count F) _ (record { is = all ∙ ap (λ (ys : List A). got ys rest) (append-nil (take i xs)) })
-        finished)
+        let first : take i xs ++ [] ≡ xs =
+        append-nil (take i xs) ∙ ap (λ (k : ℕ). take k xs) whole ∙ take-length xs in
+        sym (all ∙ ap (λ (ys : List A). got ys rest) first)
+
+-- as many items are read as are asked for
+pub many_long : {A : Type 0} (F : Form A) (n : ℕ) (s : List ℕ) {xs : List A} {t : List ℕ}
+    → read_in (many n F) s ≡ got xs t → length xs ≡ n
+unfolding many read_in
+many_long F zero s e = sym (ap length (same_got e).0)
+many_long {A} F (suc n) s {xs} {t} e =
+    let first = parted F _ (record { is = e }) in
+    let others = parted (many n F) _ first.second in
+    sym (ap length (same_got others.second.is).0) ∙ ap suc (many_long F n first.rest others.first.is)
+
+-- the first places of an array
+pub taken : {A : Type 0} (size count : ℕ) (blank : A) → count ≤ size
+    → length (take count (replicate size blank)) ≡ count
+taken size count blank few = length-take-le count (replicate size blank) (omega (arith, length-replicate size blank))
+
+-- as many items read as there are first places, the rest of the array being blank
+module _ {A : Type 0} (F : Form A) (size count : ℕ) (blank : A) (s : List ℕ) where
+  -- they were read
+  pub array_gave : {n : ℕ} {xs : List A} {t : List ℕ} → n ≡ count → got xs t ≡ read_in (many n F) s
+      → got (padded size blank xs) t ≡ read_in (array size blank count F) s
+  array_gave {n} {xs} {t} same e =
+      let all : got xs t ≡ read_in (many count F) s = e ∙ ap (λ (n : ℕ). read_in (many n F) s) same in
+      sym (first_gave (many count F) (λ ys. done (padded size blank ys)) s all ∙ finished.is)
+
+  -- one of them was refused
+  pub array_refused : {n e : ℕ} → n ≡ count → refused e ≡ read_in (many n F) s
+      → refused e ≡ read_in (array size blank count F) s
+  array_refused {n} {e} same r =
+      let one : refused e ≡ read_in (many count F) s = r ∙ ap (λ (n : ℕ). read_in (many n F) s) same in
+      sym (first_refused (many count F) (λ ys. done (padded size blank ys)) s one)
+
+  -- items read into the array itself
+  module _ (few : count ≤ size) where
+    pub items_gave : {xs : List A} {t : List ℕ}
+        → got xs t ≡ read_in (many (length (take count (replicate size blank))) F) s
+        → got (xs ++ drop count (replicate size blank)) t ≡ read_in (array size blank count F) s
+    items_gave {xs} {t} e =
+        let long : length xs ≡ count = many_long F _ s (sym e) ∙ taken size count blank few in
+        let whole : padded size blank xs ≡ xs ++ drop count (replicate size blank) =
+        ap (λ (n : ℕ). xs ++ replicate (size - n) blank) long ∙ ap (◌++◌ xs) (sym (drop-replicate count size blank)) in
+        ap (λ (ys : List A). got ys t) (sym whole) ∙ array_gave (taken size count blank few) e
+
+    pub items_refused : {e : ℕ} → refused e ≡ read_in (many (length (take count (replicate size blank))) F) s
+        → refused e ≡ read_in (array size blank count F) s
+    items_refused r = array_refused (taken size count blank few) r

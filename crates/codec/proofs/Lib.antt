@@ -1,4 +1,3 @@
-pub mod Cases
 pub mod FoldLaws
 pub mod NumberBytes
 pub mod FormLaws
@@ -9,5 +8,6 @@ pub mod WriteLaws
 pub mod NumberTrip
 pub mod FormTrip
 pub mod FormSize
+pub mod FormEnds
 pub mod Settled
 pub mod RefusalNumbers

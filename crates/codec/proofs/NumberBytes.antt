@@ -33,3 +33,6 @@ module _ (v : ℕ) where
     by_test true q a b c d e f = omega arith
     by_test false true a b c d e f = omega arith
     by_test false false a b c d e f = omega arith
+
+-- by its size
+pub ruleset sizes = (small, middle, large)

@@ -1,16 +1,12 @@
 -- The contracts of the codec settle its answers.
 use mathlib.Core.List.{List}
-use mathlib.Core.Path.{◌≡◌, refl, sym, ◌∙◌, ap}
-use Prim.Native.Nat.{ℕ, ◌≤◌}
+use mathlib.Core.Path.{◌≡◌, sym, ◌∙◌}
+use Prim.Native.Nat.{ℕ}
 use native.Mathlib.Omega.{arith}
-use lib.ListN.{length, drop, length-drop}
+use Rattle.std.specs.Prelude.{Ok, Err}
 use Rattle.numbers.proofs.RefusalLaws.{number_inj}
-use Rattle.codec.specs.declared.Number.{Number}
-use Rattle.codec.specs.declared.Number.TheVariants.{Value, Refused}
-use Rattle.codec.specs.declared.Step.{Step}
-use Rattle.codec.specs.declared.Step.TheVariants.{At, Refused as Stopped}
-use Rattle.codec.specs.Number.{Got, got, refused}
-use Rattle.codec.specs.Answers.{ReadsNumber, Reads, Writes}
+use Rattle.codec.specs.Number.{Got, got, refused, number_in}
+use Rattle.codec.specs.Answers.{Reading, reading_said, Writes}
 use Rattle.codec.proofs.FormTrip.{same_got}
 
 same_number : {A : Type 0} {a b : ℕ} → ◌≡◌ {A = Got A} (refused a) (refused b) → a ≡ b
@@ -19,34 +15,25 @@ same_number q = cc
 apart : {A : Type 0} {a : A} {s : List ℕ} {n : ℕ} → ◌≡◌ {A = Got A} (got a s) (refused n) → ⊥
 apart q = let z : ◌≡◌ {A = ℕ} 0 1 = cc in omega arith
 
--- places inside the bytes with the same bytes left are one place
-same_place : (s : List ℕ) (n m : ℕ) → n ≤ length s → m ≤ length s → drop n s ≡ drop m s → n ≡ m
-same_place s n m h k e = omega (arith, ap length e, length-drop n s, length-drop m s)
+-- two answers say the same: the same refusal, or the same value and the same bytes left
+abbrev pub SameReading : {A : Type 0} → Reading A → Reading A → Type 0
+SameReading (Ok a) (Ok b) = (a.0 ≡ b.0) × (a.1.now ≡ b.1.now)
+SameReading (Err e) (Err f) = e ≡ f
+SameReading (Ok a) (Err f) = ⊥
+SameReading (Err e) (Ok b) = ⊥
 
--- two answers to reading a number are equal
-pub number_settled : (s : List ℕ) (g : Got ℕ) (a b : Number) → ReadsNumber s g a → ReadsNumber s g b → a ≡ b
-number_settled s g (Value v n) (Value w m) p q =
-    let e = same_got (p.said ∙ sym q.said) in
-    ap (λ x. Value x n) e.0 ∙ ap (Value w) (same_place s n m p.inside q.inside e.1)
-number_settled s g (Refused e) (Refused f) p q = ap Refused (number_inj e f (same_number (p.said ∙ sym q.said)))
-number_settled s g (Value v n) (Refused f) p q = absurd (apart (p.said ∙ sym q.said))
-number_settled s g (Refused e) (Value w m) p q = absurd (apart (q.said ∙ sym p.said))
+-- two answers to one reading say the same
+pub reads_settled : {A : Type 0} (g : Got A) (p q : Reading A) → reading_said p ≡ g → reading_said q ≡ g
+    → SameReading p q
+reads_settled g (Ok a) (Ok b) v w = same_got (v ∙ sym w)
+reads_settled g (Err e) (Err f) v w = number_inj e f (same_number (v ∙ sym w))
+reads_settled g (Ok a) (Err f) v w = absurd (apart (v ∙ sym w))
+reads_settled g (Err e) (Ok b) v w = absurd (apart (w ∙ sym v))
 
--- two steps over s say the same: the same refusal, or the same bytes left
-abbrev pub SameStep : List ℕ → Step → Step → Type 0
-SameStep s (At n) (At m) = drop n s ≡ drop m s
-SameStep s (Stopped e) (Stopped f) = e ≡ f
-SameStep s (At n) (Stopped f) = ⊥
-SameStep s (Stopped e) (At m) = ⊥
-
--- two answers to reading by a form have one value beside them, and the same refusal or the same bytes left
-pub reads_settled : {A : Type 0} (s : List ℕ) (blank : A) (g : Got A) (p q : Step) (a b : A)
-    → Reads s blank g p a → Reads s blank g q b → (a ≡ b) × SameStep s p q
-reads_settled s blank g (At n) (At m) a b v w = same_got (v.said ∙ sym w.said)
-reads_settled s blank g (Stopped e) (Stopped f) a b v w =
-    (v.beside e refl ∙ sym (w.beside f refl), number_inj e f (same_number (v.said ∙ sym w.said)))
-reads_settled s blank g (At n) (Stopped f) a b v w = absurd (apart (v.said ∙ sym w.said))
-reads_settled s blank g (Stopped e) (At m) a b v w = absurd (apart (w.said ∙ sym v.said))
+-- and so do two answers to reading a number
+pub number_settled : (s : List ℕ) (p q : Reading ℕ) → reading_said p ≡ number_in s → reading_said q ≡ number_in s
+    → SameReading p q
+number_settled s = reads_settled (number_in s)
 
 -- two answers to writing, and the areas after them, are equal
 pub writes_settled : (before : List ℕ) (at : ℕ) (bytes after last : List ℕ) (end stop : ℕ)

@@ -4,10 +4,14 @@ use mathlib.Core.Path.{◌≡◌, refl, sym, ap, ◌∙◌}
 use Prim.Native.Nat.{ℕ, zero, suc, ◌+◌, ◌≤◌, ◌<◌}
 use native.Mathlib.Numerals.{add-one}
 use native.Mathlib.Omega.{arith}
-use lib.ListN.{length, get_or, set, take, drop, length-append, length-set}
-use lib.Seq.{take-suc, take-length, set_at, set-append_seam, length-take-le, drop-cons, take_at}
+use lib.ListN.{length, get_or, set, take, drop, length-append, length-set, length-drop}
+use lib.Seq.{take-length, take-suc, set-append_seam, length-take-le, drop-drop, take_at}
+use Rattle.std.proofs.Common.{take-append-drop}
+use Rattle.std.proofs.lemmas.List.{take_all}
 use Rattle.codec.specs.Number.{put}
 use Rattle.codec.specs.Answers.{Writes, Room}
+use Rattle.codec.specs.Writing.{HasRoom, Wrote}
+use Rattle.codec.specs.declared.writing.Writer.{Writer}
 use Rattle.codec.specs.Arrays.{each}
 
 -- two runs stored one behind the other are their join stored
@@ -18,11 +22,25 @@ put_append (x ∷ xs) ys out at =
     put_append xs ys (set out at x) (at + 1)
     ∙ ap (λ (n : ℕ). put (put (set out at x) (at + 1) xs) n ys) (omega arith)
 
+-- nothing is stored
+pub put_none : (out : List ℕ) (at : ℕ) → put out at [] ≡ out
+unfolding put
+put_none out at = refl
+
+-- one byte, and what is behind it
+pub put_byte : (x : ℕ) (xs out : List ℕ) (at : ℕ) → put out at (x ∷ xs) ≡ put (put out at (x ∷ [])) (at + 1) xs
+unfolding put
+put_byte x xs out at = refl
+
 -- the area keeps its length
 pub length_put : (xs out : List ℕ) (at : ℕ) → length (put out at xs) ≡ length out
 unfolding put
 length_put [] out at = refl
 length_put (x ∷ xs) out at = length_put xs (set out at x) (at + 1) ∙ length-set out at x
+
+-- two runs are as long as both
+pub long_join : (xs ys : List ℕ) → length (xs ++ ys) ≡ length xs + length ys
+long_join xs ys = length-append xs ys
 
 -- what is stored leaves the area as long as it was
 pub kept_long : {a b xs : List ℕ} {at end : ℕ} → Writes a at xs b end → length b ≡ length a
@@ -66,37 +84,6 @@ fewer f (x ∷ xs) (suc i) (suc n) l =
           (each f (take n xs)),
     )
 
--- the first i of n items are stored
-pub record Storing {A : Type 0} (f : A → List ℕ) (n : ℕ) (xs : List A) (before : List ℕ) (at i : ℕ) (after : List ℕ)
-    (from : ℕ) : Type 0 where
-  pub within : i ≤ n
-  pub wrote : Writes before at (each f (take i xs)) after from
-
-module _ {A : Type 0} {f : A → List ℕ} {n : ℕ} {xs : List A} {before : List ℕ} {at : ℕ} where
-  -- no item is written
-  pub store_start : Storing f n xs before at 0 before at
-  store_start = record { within = omega arith; wrote = wrote_none }
-
-  module _ {i : ℕ} {after : List ℕ} {from : ℕ} (w : Storing f n xs before at i after from) where
-    -- there is room for the next item
-    pub store_room : (d : A) → n ≤ length xs → i < n → Room at (each f (take n xs)) before
-        → Room from (f (get_or xs i d)) after
-    store_room d h l r =
-        let next = next_item f xs d i (omega arith) in
-        let some = fewer f xs (i + 1) n (omega arith) in
-        let more = length-append (each f (take i xs)) (f (get_or xs i d)) in
-        record { fits = omega (arith, r.fits, w.wrote.ends, kept_long w.wrote, some, ap length next, more) }
-
-    -- one item more
-    pub store_more : (d : A) {after' : List ℕ} {from' : ℕ} → n ≤ length xs → i < n
-        → Writes after from (f (get_or xs i d)) after' from' → Storing f n xs before at (i + 1) after' from'
-    store_more d h l v =
-        record { within = omega arith; wrote = rw (next_item f xs d i (omega arith)) (wrote_then w.wrote v) }
-
-    -- all items are written
-    pub store_done : n ≤ i → Writes before at (each f (take n xs)) after from
-    store_done l = let e : i ≡ n = omega (arith, w.within) in rw (← e) w.wrote
-
 -- ---- room for one run, and for what comes behind it
 pub room_first : (xs ys : List ℕ) {a : List ℕ} {at : ℕ} → Room at (xs ++ ys) a → Room at xs a
 room_first xs ys h = record { fits = omega (arith, h.fits, length-append xs ys) }
@@ -121,44 +108,73 @@ put_behind ys (x ∷ xs) (y ∷ out) l =
 pub put_start : (xs out : List ℕ) → length xs ≤ length out → put out 0 xs ≡ xs ++ drop (length xs) out
 put_start xs out l = put_behind [] xs out l
 
--- the first i bytes are copied
-pub record Copied (bytes before : List ℕ) (i : ℕ) (after : List ℕ) : Type 0 where
-  pub within : i ≤ length bytes
-  pub long : length after ≡ length before
-  pub is : after ≡ take i bytes ++ drop i before
+-- a run stored in an area that has room for it: what stands before it and behind it is as it was
+pub put_within : (xs out : List ℕ) (at : ℕ) → at + length xs ≤ length out
+    → put out at xs ≡ take at out ++ (xs ++ drop (at + length xs) out)
+put_within xs out at l =
+    let first : length (take at out) ≡ at = length-take-le at out (omega arith) in
+    let behind = put_behind (take at out) xs (drop at out) (omega (arith, length-drop at out)) in
+    rw (take-append-drop, first, drop-drop) at behind
 
-module _ {bytes before : List ℕ} where
-  -- nothing is copied
-  pub copy_start : Copied bytes before 0 before
-  copy_start = record { within = omega arith; long = refl; is = refl }
-
-  -- one byte more
-  pub copy_more : {i : ℕ} {after : List ℕ} → length bytes ≤ length before → i < length bytes → Copied bytes before i
-      after
-      → Copied bytes before (i + 1) (set after i (get_or bytes i 0))
-  copy_more {i} {after} h l w =
-      let x = get_or bytes i 0 in
-      let first : length (take i bytes) ≡ i = length-take-le i bytes (omega arith) in
-      let next : drop i before ≡ get_or before i 0 ∷ drop (suc i) before = drop-cons before i 0 (omega arith) in
-      record {
-        within = omega arith;
-        long = length-set after i x ∙ w.long;
-        is =
-            ap (λ (o : List ℕ). set o i x) (w.is ∙ ap (◌++◌ (take i bytes)) next)
-            ∙ set_at (take i bytes) (get_or before i 0) (drop (suc i) before) x i first
-            ∙ rw (add-one, take-suc bytes i 0 l, append_assoc) refl;
-      }
-
-  -- all bytes are copied
-  pub copy_done : {i : ℕ} {after : List ℕ} → length bytes ≤ i → Copied bytes before i after
-      → after ≡ bytes ++ drop (length bytes) before
-  copy_done {i} l w =
-      let e : i ≡ length bytes = omega (arith, w.within) in
-      w.is ∙ ap (λ (k : ℕ). take k bytes ++ drop k before) e
-      ∙ ap (λ (xs : List ℕ). xs ++ drop (length bytes) before) (take-length bytes)
+-- so it is stored where it is copied over the bytes that stand there
+pub copied_over : (xs out : List ℕ) (at k : ℕ) → k ≡ length xs → at + k ≤ length out
+    → take at out ++ (xs ++ drop k (drop at out)) ≡ put out at xs
+copied_over xs out at k e l = rw (e, drop-drop) (sym (put_within xs out at (omega (arith, e))))
 
 -- bytes stored at the start of an area can be taken from it again
 pub stored_first : {xs out after : List ℕ} {end : ℕ} → length xs ≤ length out → Writes out 0 xs after end
     → take end after ≡ xs
 stored_first {xs} {out} {after} {end} l w =
     ap (take end) (w.stored ∙ put_start xs out l) ∙ take_at xs (drop (length xs) out) end (omega (arith, w.ends))
+
+-- ---- writers
+-- what is stored behind a run, and how long a run and an area are
+pub ruleset stores = (put_append, put_byte, put_none, length_put, long_join)
+
+-- in a loop over items: what is stored of the first i, and of all
+module _ {A : Type 0} (f : A → List ℕ) (xs : List A) (i : ℕ) (d : A) {u w : Writer} where
+  -- there is room for the next item
+  pub item_room : HasRoom u (each f xs) → Wrote u (each f (take i xs)) w → i < length xs
+      → HasRoom w (f (get_or xs i d))
+  item_room r h l =
+      let next = ap length (next_item f xs d i l) in
+      let all = ap (λ (ys : List A). length (each f ys)) (take-length xs) in
+      let some = fewer f xs (i + 1) (length xs) (omega arith) in
+      let more = length-append (each f (take i xs)) (f (get_or xs i d)) in
+      record { fits = omega (arith, r.fits, h.writes.ends, kept_long h.writes, some, next, all, more) }
+
+  -- one item more
+  pub item_more : {v : Writer} → Wrote u (each f (take i xs)) w → Wrote w (f (get_or xs i d)) v → i < length xs
+      → Wrote u (each f (take (i + 1) xs)) v
+  item_more h k l =
+      rw (next_item f xs d i l) (record { same = k.same ∙ h.same; writes = wrote_then h.writes k.writes })
+
+pub items_all : {A : Type 0} (f : A → List ℕ) (xs : List A) (i : ℕ) → length xs ≤ i → each f (take i xs) ≡ each f xs
+items_all f xs i l = ap (each f) (take_all i xs l)
+
+-- in a loop over items, of which the first i are stored: the next one
+pub items_put : {A : Type 0} (f : A → List ℕ) (xs : List A) (i : ℕ) (d : A) (out : List ℕ) (at m : ℕ) → i < length xs
+    → m ≡ at + length (each f (take i xs))
+    → put (put out at (each f (take i xs))) m (f (get_or xs i d)) ≡ put out at (each f (take (i + 1) xs))
+items_put f xs i d out at m l e =
+    rw e (sym (put_append (each f (take i xs)) (f (get_or xs i d)) out at))
+    ∙ ap (put out at) (sym (next_item f xs d i l))
+
+pub items_long : {A : Type 0} (f : A → List ℕ) (xs : List A) (i : ℕ) (d : A) → i < length xs
+    → length (each f (take i xs)) + length (f (get_or xs i d)) ≡ length (each f (take (i + 1) xs))
+items_long f xs i d l =
+    omega (arith, ap length (next_item f xs d i l), length-append (each f (take i xs)) (f (get_or xs i d)))
+
+-- there is room for it where there is for all
+pub items_room : {A : Type 0} (f : A → List ℕ) (xs : List A) (i : ℕ) (d : A) → i < length xs
+    → length (each f (take i xs)) + length (f (get_or xs i d)) ≤ length (each f xs)
+items_room {A} f xs i d l =
+    omega (
+      arith,
+      fewer f xs (i + 1) (length xs) (omega arith),
+      items_long f xs i d l,
+      ap (λ (ys : List A). length (each f ys)) (take-length xs),
+    )
+
+-- a loop over items
+pub ruleset items = (stores, items_all, items_put, items_long, items_room)

@@ -2,3 +2,4 @@ pub mod Number
 pub mod Form
 pub mod Arrays
 pub mod Answers
+pub mod Writing

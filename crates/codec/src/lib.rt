@@ -1,125 +1,68 @@
 // The model's numbers as bytes, read and written.
 #![tactic(auto)]
 
-ghost use Rattle.std.specs.Prelude.{◌≡◌, ◌<◌, ◌≤◌, nat_abs, drop};
-ghost use Rattle.codec.specs.Number.{number_in, bytes_of, folded, unfolded};
-ghost use Rattle.codec.specs.Form.{done, ask, read_in};
-ghost use Rattle.codec.specs.Answers.{ReadsNumber, why_number, why_step, Writes, Room};
+ghost use Rattle.std.specs.Prelude.{◌≡◌, ◌≤◌, length, nat_abs};
+ghost use Rattle.codec.specs.Number.{number_in, folded, unfolded};
+ghost use Rattle.codec.specs.Form.{Form, done, ask};
+ghost use Rattle.codec.specs.Answers.{reading_said, Reads, ReadsBy, ReadsItems};
 
 use numbers::Refusal;
 
-// A number and where the next byte stands, or why there is none.
-#[derive(Clone, Copy)]
-pub enum Number {
-    Value { value: u32, next: usize },
-    Refused(Refusal),
-}
+pub mod arrays;
+mod writing;
 
-impl Number {
-    // Why a number is refused.
-    pub fn why(self) -> Refusal
-        ensures { result ≡ why_number self }
-    {
-        match self {
-            Number::Refused(e) => e,
-            Number::Value { value: _, next: _ } => Refusal::Bytes,
-        }
-    }
-}
+pub use writing::Writer;
 
-// Where a reading ended, or why it is refused. What was read stands beside it.
-#[derive(Clone, Copy)]
-pub enum Step {
-    At(usize),
-    Refused(Refusal),
-}
+// The answer of a reading: the value and the bytes behind it, or why there is none.
+pub type Reading<'a, T> = Result<(T, &'a [u8]), Refusal>;
 
-impl Step {
-    // Why a reading is refused.
-    pub fn why(self) -> Refusal
-        ensures { result ≡ why_step self }
-    {
-        match self {
-            Step::Refused(e) => e,
-            Step::At(_) => Refusal::Bytes,
-        }
-    }
-}
-
-// The number that stands at a place.
-pub fn read_number(s: &[u8], at: usize) -> Number
-    ensures { ReadsNumber s.now (number_in (drop at s.now)) result }
+// The number that the bytes begin with.
+#[tactic(auto, unfolding(crate::specs::Number::number_in))]
+pub fn read_number(s: &[u8]) -> Reading<'_, u32>
+    ensures { reading_said result ≡ number_in s.now }
 {
-    if s.len() <= at {
-        return Number::Refused(Refusal::Bytes);
-    }
-    let a = s[at] as u32;
-    if a < 128 {
-        return Number::Value {
-            value: a,
-            next: at + 1,
-        };
-    }
-    if s.len() <= at + 1 {
-        return Number::Refused(Refusal::Bytes);
-    }
-    let b = s[at + 1] as u32;
-    if b < 128 {
-        if b == 0 {
-            return Number::Refused(Refusal::Bytes);
+    match s {
+        [a, rest @ ..] if *a < 128 => Ok((*a as u32, rest)),
+        [_, 0, ..] => Err(Refusal::Bytes),
+        [a, b, rest @ ..] if *b < 128 => Ok((*a as u32 - 128 + *b as u32 * 128, rest)),
+        [_, _, 0, ..] => Err(Refusal::Bytes),
+        [a, b, c, rest @ ..] if *c < 128 => {
+            let low = *a as u32 - 128 + (*b as u32 - 128) * 128;
+            Ok((low + *c as u32 * 16384, rest))
         }
-        return Number::Value {
-            value: a - 128 + b * 128,
-            next: at + 2,
-        };
+        _ => Err(Refusal::Bytes),
     }
-    if s.len() <= at + 2 {
-        return Number::Refused(Refusal::Bytes);
-    }
-    let c = s[at + 2] as u32;
-    if c == 0 {
-        return Number::Refused(Refusal::Bytes);
-    }
-    if c < 128 {
-        return Number::Value {
-            value: a - 128 + (b - 128) * 128 + c * 16384,
-            next: at + 3,
-        };
-    }
-    Number::Refused(Refusal::Bytes)
 }
 
-// The number below a limit that stands at a place.
-pub fn read_below(s: &[u8], at: usize, limit: u32) -> Number
-    ensures { ReadsNumber s.now (read_in (ask limit (λ v. done v)) (drop at s.now)) result }
+// The number below a limit that the bytes begin with.
+#[tactic(auto, unfolding(crate::specs::Form::read_in))]
+pub fn read_below(s: &[u8], limit: u32) -> Reading<'_, u32>
+    ensures { Reads (ask limit (λ v. done v)) s.now result }
 {
-    let n = read_number(s, at);
-    let Number::Value { value, next: _ } = n else {
-        return n;
-    };
+    let (value, rest) = read_number(s)?;
     if value < limit {
-        return n;
+        Ok((value, rest))
+    } else {
+        Err(Refusal::Model)
     }
-    Number::Refused(Refusal::Model)
 }
 
-// Writes the bytes of a number from a place on, and says where they end.
-pub fn write_number(out: &mut [u8], at: usize, v: u32) -> usize
-    requires { (v < 2097152) × Room at (bytes_of v) out.old }
-    ensures { Writes out.old at (bytes_of v) out.new result }
+// Reads items one behind the other, each by a call of `read`: the bytes behind the last one.
+pub fn read_items<'a, T: Copy, F: Fn(&'a [u8]) -> Reading<'a, T>>(
+    s: &'a [u8],
+    items: &mut [T],
+    read: F,
+) -> Result<&'a [u8], Refusal>
+    requires { F.IsAlwaysCallable read }
+    ensures { (form : Form T) → ReadsBy form (F.post read) → ReadsItems form (length items.old) s.now items.new result }
 {
-    if v < 128 {
-        out[at] = v as u8;
-        return at + 1;
+    let mut rest = s;
+    for item in items.iter_mut() {
+        let (value, after) = read(rest)?;
+        *item = value;
+        rest = after;
     }
-    out[at] = (v % 128 + 128) as u8;
-    if v < 16384 {
-        out[at + 1] = (v / 128) as u8;
-        return at + 2;
-    }
-    out[at + 1] = (v / 128 % 128 + 128) as u8;
-    out[at + 2] = (v / 16384) as u8;
-    at + 3
+    Ok(rest)
 }
 
 // A signed number, folded.
@@ -127,10 +70,8 @@ pub fn fold(k: i32) -> u32
     requires { nat_abs k ≤ 1000000 }
     ensures { result ≡ folded k }
 {
-    if k < 0 {
-        return (-k) as u32 * 2 - 1;
-    }
-    k as u32 * 2
+    let twice = k.unsigned_abs() * 2;
+    if k < 0 { twice - 1 } else { twice }
 }
 
 // The signed number that was folded.
@@ -138,8 +79,6 @@ pub fn unfold(v: u32) -> i32
     requires { v ≤ 2000000 }
     ensures { result ≡ unfolded v }
 {
-    if v % 2 == 0 {
-        return (v / 2) as i32;
-    }
-    -((v / 2) as i32) - 1
+    let half = (v / 2) as i32;
+    if v % 2 == 0 { half } else { -half - 1 }
 }

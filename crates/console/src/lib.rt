@@ -23,19 +23,8 @@ const REASON: usize = 128;
 pub fn report(buffer: &[u8; INPUT], n: usize, text: &mut [u8; TEXT]) -> usize
     ensures { Reports buffer.now n text.old result text.new }
 {
-    report_first(buffer, n, text)
-}
-
-// The same of a slice that is as long.
-fn report_first(buffer: &[u8], n: usize, text: &mut [u8; TEXT]) -> usize
-    requires { length buffer.now ≡ 65536 }
-    ensures { Reports buffer.now n text.old result text.new }
-{
     let mut area = [0i32; AREA];
-    if buffer.len() < n {
-        return answer::answer(buffer, &mut area, text);
-    }
-    answer::answer(&buffer[..n], &mut area, text)
+    answer::answer(&buffer[..n.min(buffer.len())], &mut area, text)
 }
 
 // Reads once, and again as long as a signal comes first.
@@ -44,12 +33,9 @@ fn read_some<R: Read>(input: &mut R, part: &mut [u8]) -> io::Result<usize>
     ensures bytes { ReadConsumes (R.remaining input.old) (R.remaining input.new) result part.new }
 {
     for _ in 0..u64::MAX {
-        let got = input.read(part);
-        let Err(e) = got else {
-            return got;
-        };
-        if e.kind() != ErrorKind::Interrupted {
-            return got;
+        match input.read(part) {
+            Err(e) if e.kind() == ErrorKind::Interrupted => {}
+            got => return got,
         }
     }
     input.read(part)

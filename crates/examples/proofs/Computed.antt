@@ -19,7 +19,7 @@ use Rattle.sets.specs.Tests.{words_ok, some_finite, vector_ok, part, clocks_ok, 
 use Rattle.sets.specs.Rules.{flat, attained, inside, has_point, covers, covered, contains_checked, contains_of}
 use Rattle.sets.specs.Rules.{included_checked, included_of}
 use Rattle.sets.proofs.Asking.{contains_as, included_as}
-use Rattle.making.specs.declared.Made.{Made}
+use Rattle.making.specs.Types.{Made}
 use Rattle.making.specs.Clean.{try_one, clean_from, clean_flags, kept, lower_from, earlier, insert, sorted, cleaned}
 use Rattle.making.specs.Clean.{canonical_of}
 use Rattle.making.specs.Rules.{Result, range_ok, finished, shape_ok, intersect_checked, intersect_of, delay_checked}

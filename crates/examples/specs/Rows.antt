@@ -1,15 +1,13 @@
 -- The worked examples (docs/RULES.md, "Examples"): each row is a call, its arguments and the answer expected; of a
 -- call that makes a set, also the result area before and after.
-use Rattle.std.specs.Prelude.{List, [], ◌∷◌, ◌++◌, ◌≡◌, ℕ, suc, ◌*◌, ℤ, pos, negsuc, length, drop, replicate}
+use Rattle.std.specs.Prelude.{List, [], ◌∷◌, ◌++◌, ◌≡◌, ℕ, suc, ◌*◌, ℤ, pos, negsuc, length, drop, replicate, Err, Ok, false, true}
 use Rattle.numbers.specs.Words.{mark}
 use Rattle.numbers.specs.declared.Refusal.TheVariants.{Range}
 use Rattle.sets.specs.Calls.{Contains, IsIncluded}
-use Rattle.sets.specs.declared.Told.{Told}
-use Rattle.sets.specs.declared.Told.TheVariants.{Yes, No}
+use Rattle.sets.specs.Types.{Told}
 use Rattle.making.specs.Calls.{Intersects, Delays, Resets, Hulls}
-use Rattle.making.specs.declared.Made.{Made}
-use Rattle.making.specs.declared.Made.TheVariants.{Vectors, Refused}
-use Rattle.runs.specs.declared.Verdict.{Verdict}
+use Rattle.making.specs.Types.{Made}
+use Rattle.runs.specs.Verdicts.{Judged}
 use Rattle.runs.specs.declared.Verdict.TheVariants.{Reached, Never, Open}
 use Rattle.walk.specs.Walks.{Walks}
 use Rattle.answer.specs.Printed.{report_of}
@@ -28,7 +26,7 @@ pub data Row : Type 0 where
   in_bytes : ℕ → List ℕ → Row
   no_number : List ℕ → ℕ → Row
   fold : ℤ → ℕ → Row
-  walk : List ℕ → List ℤ → Verdict → List ℤ → Row
+  walk : List ℕ → List ℤ → Judged → List ℤ → Row
   prints : List ℕ → List ℕ → Row
 
 -- a row is right if the call's contract allows the answer and the area afterwards
@@ -138,34 +136,34 @@ four_kept =
 unfoldable pub rows : List Row
 rows =
     -- 1: one clock, point 0, delayed: point 0, ray 0
-    delay 1 (pos 0 ∷ pos 0 ∷ []) (area 1) (Vectors 2) (area_with 1 (pos 0 ∷ pos 0 ∷ pos 0 ∷ mark ∷ []))
+    delay 1 (pos 0 ∷ pos 0 ∷ []) (area 1) (Ok 2) (area_with 1 (pos 0 ∷ pos 0 ∷ pos 0 ∷ mark ∷ []))
     -- 2: the points (1,1), (3,1) and (1,3) delayed are the cone
-    ∷ delay 2 corner (area 2) (Vectors 3) (area_with 2 cone)
+    ∷ delay 2 corner (area 2) (Ok 3) (area_with 2 cone)
     -- 3: the cone with clock 0 reset to 0 is (0,1) with ray (−∞,0)
-    ∷ reset 2 cone 0 (pos 0) (area 2) (Vectors 2) (area_with 2 upright)
+    ∷ reset 2 cone 0 (pos 0) (area 2) (Ok 2) (area_with 2 upright)
     -- 4: in the cone, (2,4) is and (2,5) is not
-    ∷ contains 2 cone (pos 2 ∷ pos 4 ∷ []) Yes
-    ∷ contains 2 cone (pos 2 ∷ pos 5 ∷ []) No
+    ∷ contains 2 cone (pos 2 ∷ pos 4 ∷ []) (Ok true)
+    ∷ contains 2 cone (pos 2 ∷ pos 5 ∷ []) (Ok false)
     -- 5: the hull of (0,0) and (2,1) has these two points; in it, (1,0) is and (1,1) is not
-    ∷ hull 2 (pos 0 ∷ pos 0 ∷ pos 0 ∷ []) (pos 2 ∷ pos 1 ∷ pos 0 ∷ []) (area 2) (Vectors 2) (area_with 2 pair)
-    ∷ contains 2 pair (pos 1 ∷ pos 0 ∷ []) Yes
-    ∷ contains 2 pair (pos 1 ∷ pos 1 ∷ []) No
+    ∷ hull 2 (pos 0 ∷ pos 0 ∷ pos 0 ∷ []) (pos 2 ∷ pos 1 ∷ pos 0 ∷ []) (area 2) (Ok 2) (area_with 2 pair)
+    ∷ contains 2 pair (pos 1 ∷ pos 0 ∷ []) (Ok true)
+    ∷ contains 2 pair (pos 1 ∷ pos 1 ∷ []) (Ok false)
     -- 6: points (0,0) and (5,0) with clock 0 ≥ 2: (2,0) and (5,0)
-    ∷ intersect 2 (segment 0) late (area 2) (Vectors 2) (area_with 2 (segment 2))
+    ∷ intersect 2 (segment 0) late (area 2) (Ok 2) (area_with 2 (segment 2))
     -- 7: a ray without points is included in the empty set
-    ∷ included 2 ray [] Yes
+    ∷ included 2 ray [] (Ok true)
     -- 8: point (1000000,0) with clock 1 ≥ 1: RANGE with ray (0,−1000000); with ray (0,0), point (1000000,1)
-    ∷ intersect 2 (far 0 (negsuc 999999)) above (area 2) (Refused Range) (area 2)
-    ∷ intersect 2 (far 0 (pos 0)) above (area 2) (Vectors 2) (area_with 2 (far 1 (pos 0)))
+    ∷ intersect 2 (far 0 (negsuc 999999)) above (area 2) (Err Range) (area 2)
+    ∷ intersect 2 (far 0 (pos 0)) above (area 2) (Ok 2) (area_with 2 (far 1 (pos 0)))
     -- 10: the worked model; with 11 for 10; then depth 1
-    ∷ walk (model 10 8) states (Reached 1 2 2) both_kept
-    ∷ walk (model 11 8) states (Never 2 2) both_kept
-    ∷ walk (model 11 1) states (Open 1 2 2) both_kept
+    ∷ walk (model 10 8) states (Ok (Reached 1 2 2)) both_kept
+    ∷ walk (model 11 8) states (Ok (Never 2 2)) both_kept
+    ∷ walk (model 11 1) states (Ok (Open 1 2 2)) both_kept
     -- what is printed of it: REACHED 1 2 2, and the line 1 1; NEVER 2 2
     ∷ prints (model 10 8) (82 ∷ 69 ∷ 65 ∷ 67 ∷ 72 ∷ 69 ∷ 68 ∷ 32 ∷ 49 ∷ 32 ∷ 50 ∷ 32 ∷ 50 ∷ 10 ∷ 49 ∷ 32 ∷ 49 ∷ 10 ∷ [])
     ∷ prints (model 11 8) (78 ∷ 69 ∷ 86 ∷ 69 ∷ 82 ∷ 32 ∷ 50 ∷ 32 ∷ 50 ∷ 10 ∷ [])
     -- a layer with two states to expand, in order
-    ∷ walk fork four (Reached 2 4 3) four_kept
+    ∷ walk fork four (Ok (Reached 2 4 3)) four_kept
     -- 11: numbers as bytes
     ∷ in_bytes 127 (127 ∷ [])
     ∷ in_bytes 128 (128 ∷ 1 ∷ [])

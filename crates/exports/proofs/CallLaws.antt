@@ -1,3 +1,4 @@
+use Rattle.std.proofs.Common.{Err, Ok, Result}
 -- What the calls behind the boundary give: counts that fit, and bytes read and written back.
 use mathlib.Core.List.{List}
 use mathlib.Core.Path.{◌≡◌, refl, sym, ap, ◌∙◌}
@@ -5,24 +6,18 @@ use Prim.Native.Nat.{ℕ, ◌≤◌}
 use native.Mathlib.Omega.{arith}
 use lib.IntN.{ℤ}
 use borrow.Author.Tests.{lt-ltb, le-ltb}
-use denote.Enum.Declared.{tag_of}
 use Rattle.numbers.specs.Integers.{hi}
 use Rattle.numbers.specs.Refusals.{refusal_number}
 use Rattle.numbers.specs.declared.Refusal.{Refusal}
 use Rattle.numbers.specs.declared.Refusal.TheVariants.{Gens}
 use Rattle.algebra.specs.Sets.{Set}
 use Rattle.sets.specs.Demands.{Input}
-use Rattle.making.specs.declared.Made.{Made}
-use Rattle.making.specs.declared.Made.TheVariants.{Vectors, Refused}
+use Rattle.making.specs.Types.{Made}
 use Rattle.making.specs.Answers.{Makes}
 use Rattle.making.specs.Calls.{Resets}
 use Rattle.codec.specs.Arrays.{AreBytes}
-use Rattle.codec.specs.Answers.{why_step}
-use Rattle.codec.specs.declared.Step.{Step}
-use Rattle.codec.specs.declared.Step.TheVariants.{At, Refused as Stopped}
-use Rattle.codec.specs.contracts.Step.{the_type}
 use Rattle.model.specs.declared.Model.{Model}
-use Rattle.model.specs.Answers.{Said, value, read_of, reading_said, ReadsModel, Stands}
+use Rattle.model.specs.Answers.{Said, value, read_of, written_said, ReadsModel, Stands}
 use Rattle.model.specs.Answers.{WritesModel, outside, short, wrote}
 use Rattle.model.proofs.Theorems.{size}
 use Rattle.answer.specs.Printed.{Answered, printed_of, Prints}
@@ -34,9 +29,9 @@ use Rattle.exports.proofs.NumberLaws.{not_above}
 -- a set that is made has at most 32 vectors
 pub made_fits : (c : Input) (n : ℕ) (wanted : Set) (before : List ℤ) (a : Made) (after : List ℤ)
     → Makes c n wanted before a after → hi (made_number a) ≤ 33664
-made_fits c n wanted before (Vectors k) after p =
+made_fits c n wanted before (Ok k) after p =
     omega (arith, p.outcome.count, p.outcome.met Gens (omega arith))
-made_fits c n wanted before (Refused e) after p = omega (arith, not_above (refusal_number e))
+made_fits c n wanted before (Err e) after p = omega (arith, not_above (refusal_number e))
 
 -- a model has at most 33,664 bytes
 pub written_fits : (m : Model) (before after : List ℕ) (s : Said ℕ) → WritesModel m before after s
@@ -59,17 +54,10 @@ pub resets_same : (n : ℕ) (l : List ℤ) (i : ℕ) (c d : ℤ) (before : List 
 resets_same n l i c d before a after r e = rw (← e) r
 
 -- ---- bytes read and written back
--- the model that was read
-pub read_value : (s : List ℕ) (step : Step) (m : Model) (end : ℕ) → ReadsModel s step m → step ≡ At end
-    → read_of s ≡ value m
-read_value s step m end r e = sym r.said ∙ ap (λ (p : Step). reading_said p m) e
-
 -- they are refused
-pub rewrites_unread : (s : List ℕ) (step : Step) (m : Model) (before : List ℕ) (e : Refusal) (r : ℤ)
-    → ReadsModel s step m → tag_of the_type step ≡ 1 → e ≡ why_step step → r ≡ minus (refusal_number e)
-    → Rewrites s before r before
-rewrites_unread s (At end) m before e r p z f g = absurd (omega (arith, z))
-rewrites_unread s (Stopped x) m before e r p z f g = unfold rewritten_of in rw (← p.said, g, f) refl
+pub rewrites_unread : (s : List ℕ) (e : Refusal) (before : List ℕ) → ReadsModel s (Err e)
+    → Rewrites s before (made_number (Err e)) before
+rewrites_unread s e before p = unfold rewritten_of in rw (← p.said) refl
 
 -- they are those of a model
 pub rewrites_read : (s : List ℕ) (m : Model) (before after : List ℕ) (said : Said ℕ) (r : ℤ) → read_of s ≡ value m
@@ -78,3 +66,15 @@ unfolding rewritten_of
 rewrites_read s m before after said r e p (outside l a f) g = absurd (l p.limits)
 rewrites_read s m before after said r e p (short l h a f) g = rw (e, g, f, a, p.bytes, lt-ltb _ _ h) refl
 rewrites_read s m before after said r e p (wrote l h a f) g = rw (e, g, f, a, p.bytes, le-ltb _ _ h) refl
+
+-- the number of what was written
+pub rewrites_written : (s : List ℕ) (m : Model) (before after : List ℕ) (w : Result ℕ Refusal) → ReadsModel s (Ok m)
+    → WritesModel m before after (written_said w) → Rewrites s before (made_number w) after
+rewrites_written s m before after (Ok n) p w = rewrites_read s m before after _ _ (sym p.said) p.stands w refl
+rewrites_written s m before after (Err e) p w = rewrites_read s m before after _ _ (sym p.said) p.stands w refl
+
+-- it is small
+pub rewrites_fit : (m : Model) (before after : List ℕ) (w : Result ℕ Refusal) → WritesModel m before after (written_said w)
+    → hi (made_number w) ≤ 33664
+rewrites_fit m before after (Ok n) w = written_fits m before after _ w
+rewrites_fit m before after (Err e) w = written_fits m before after _ w

@@ -3,9 +3,9 @@ use mathlib.Core.List.{List}
 use mathlib.Core.Path.{◌≡◌, sym, ap, ◌∙◌}
 use Prim.Native.Nat.{ℕ}
 use lib.IntN.{ℤ}
-use Rattle.sets.specs.declared.Told.{Told}
+use Rattle.sets.specs.Types.{Told}
 use Rattle.sets.proofs.Asking.{contains_settled, included_settled}
-use Rattle.making.specs.declared.Made.{Made}
+use Rattle.making.specs.Types.{Made}
 use Rattle.making.proofs.Settled.{intersect_settled, delay_settled, reset_settled, hull_settled}
 use Rattle.runs.specs.Verdicts.{Answer, answer_by}
 use Rattle.walk.proofs.Theorems.{walk_settled}

@@ -1,15 +1,13 @@
 -- The exported calls: the number of each answer, and the contract of each call.
-use Rattle.std.specs.Prelude.{cond, List, [], ◌∷◌, ◌++◌, ◌≡◌, ℕ, ltb, ℤ, pos, neg_ℤ, length, drop}
+use Rattle.std.specs.Prelude.{cond, List, [], ◌∷◌, ◌++◌, ◌≡◌, ℕ, ltb, ℤ, pos, neg_ℤ, length, drop, Err, Ok, false, true}
 use Rattle.numbers.specs.Refusals.{refusal_number}
 use Rattle.numbers.specs.declared.Refusal.TheVariants.{Shape}
-use Rattle.sets.specs.declared.Told.{Told}
-use Rattle.sets.specs.declared.Told.TheVariants.{Yes, No, Refused as NotTold}
+use Rattle.sets.specs.Types.{Told}
 use Rattle.sets.specs.Calls.{Contains, IsIncluded}
-use Rattle.making.specs.declared.Made.{Made}
-use Rattle.making.specs.declared.Made.TheVariants.{Vectors, Refused as NotMade}
+use Rattle.making.specs.Types.{Made}
 use Rattle.making.specs.Calls.{Intersects, Delays, Resets, Hulls}
 use Rattle.runs.specs.Verdicts.{Answer, reached, never, open_to, refused, answer_by}
-use Rattle.runs.specs.declared.Verdict.{Verdict}
+use Rattle.runs.specs.Verdicts.{Judged}
 use Rattle.model.specs.Answers.{Said, value, refusal, read_of}
 use Rattle.model.specs.declared.Model.{Model}
 use Rattle.walk.specs.Walks.{Walks}
@@ -22,14 +20,14 @@ minus k = neg_ℤ (pos k)
 
 -- yes and no
 abbrev pub told_number : Told → ℤ
-told_number Yes = pos 1
-told_number No = pos 0
-told_number (NotTold e) = minus (refusal_number e)
+told_number (Ok true) = pos 1
+told_number (Ok false) = pos 0
+told_number (Err e) = minus (refusal_number e)
 
 -- the count of vectors
 abbrev pub made_number : Made → ℤ
-made_number (Vectors k) = pos k
-made_number (NotMade e) = minus (refusal_number e)
+made_number (Ok k) = pos k
+made_number (Err e) = minus (refusal_number e)
 
 -- a count
 abbrev pub said_number : Said ℕ → ℤ
@@ -94,7 +92,7 @@ Rewrites bytes before r after = record { number = r; area = after } ≡ rewritte
 -- the counts are those of the verdict that is numbered
 pub record WalksNumbered (bytes : List ℕ) (before : List ℤ) (earlier : List ℕ) (r : ℤ) (after : List ℤ)
     (counts : List ℕ) : Type 0 where
-  pub verdict : Verdict
+  pub verdict : Judged
   pub gives : Walks bytes before verdict after
   pub is : r ≡ answer_number (answer_by verdict)
   pub counted : counts ≡ counts_of (answer_by verdict) earlier

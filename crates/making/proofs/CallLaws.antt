@@ -1,13 +1,13 @@
 -- From the checks of a call and what stands in working memory to its answer by the rule.
+use Rattle.std.proofs.Common.{Err, Ok}
 use mathlib.Core.Bool.{Bool, true, false, cond}
-use mathlib.Core.List.{List, [], ◌∷◌, ◌++◌, map}
+use mathlib.Core.List.{List, [], ◌++◌, map}
 use mathlib.Core.Path.{◌≡◌, refl, sym, ◌∙◌, ap, subst}
-use Prim.Native.Nat.{ℕ, suc, ◌+◌, ◌*◌, ◌/◌, ◌≤◌, ◌<◌}
-use native.Mathlib.Nat.{add-zero, mul-one, mul-le-mul, mul-le-mul_left}
+use Prim.Native.Nat.{ℕ, suc, ◌+◌, ◌*◌, ◌≤◌, ◌<◌}
+use native.Mathlib.Nat.{add-zero, mul-le-mul}
 use native.Mathlib.Omega.{arith}
-use denote.Enum.Declared.{tag_of}
 use lib.IntN.{ℤ, pos}
-use lib.ListN.{length, replicate, length-map, length-append, length-replicate, get_or-replicate}
+use lib.ListN.{length, replicate, length-map, length-replicate, get_or-replicate}
 use Rattle.numbers.specs.Numbers.{Num, −∞, fin, ◌▷◌, Within}
 use Rattle.numbers.specs.Words.{number}
 use Rattle.numbers.specs.Places.{entries, Each}
@@ -17,28 +17,23 @@ use Rattle.algebra.specs.Wanted.{left, right}
 use Rattle.algebra.specs.Working.{is_point, some_point, normal, with_point}
 use Rattle.algebra.specs.Working.{intersect_list, delay_list, reset_list, hull_list}
 use Rattle.algebra.proofs.Lists.{vectors_length}
-use Rattle.sets.specs.declared.Checked.{Checked}
-use Rattle.sets.specs.declared.Checked.TheVariants.{Good, Refused as CheckedRefused}
+use Rattle.sets.specs.Types.{Checked}
 use Rattle.sets.specs.Demands.{Input, Good as GoodInput}
-use Rattle.sets.specs.Rules.{flat, has_point, why_of}
-use Rattle.sets.specs.contracts.Checked.{the_type}
+use Rattle.sets.specs.Rules.{flat, has_point}
 use Rattle.sets.proofs.FlatLaws.{family_flat}
 use Rattle.sets.proofs.TestLaws.{loose_within}
 use Rattle.sorting.specs.Rows.{held}
 use Rattle.sorting.proofs.Held.{held_none}
-use Rattle.making.specs.declared.Made.{Made}
-use Rattle.making.specs.declared.Made.TheVariants.{Refused}
-use Rattle.making.specs.declared.build.Change.{Change}
-use Rattle.making.specs.declared.build.Change.TheVariants.{Stay}
+use Rattle.making.specs.Types.{Made}
 use Rattle.making.specs.Calls.{Intersects, Delays, Resets, Hulls}
-use Rattle.making.specs.Change.{changed_by, ChangeLimits, Growable}
+use Rattle.making.specs.Change.{Growable}
 use Rattle.making.specs.Clean.{sorted, cleaned, canonical_of}
 use Rattle.making.specs.Finish.{canonical_held, Finishable, Finishes}
 use Rattle.making.specs.Limits.{HalfLimits}
 use Rattle.making.specs.Rules.{make_after, finished, intersect_checked, intersect_of, delay_checked, delay_of}
 use Rattle.making.specs.Rules.{reset_checked, reset_of, hull_checked, hull_of}
-use Rattle.making.specs.Work.{Added, Grown}
-use Rattle.making.proofs.BuildLaws.{added_none, added_append, rows_count, steps_count}
+use Rattle.making.specs.Work.{Grown}
+use Rattle.making.proofs.BuildLaws.{added_none, grown_append}
 use Rattle.making.proofs.Normal.{map_at, normal_at, normals_kinds, shift_of}
 use Rattle.making.proofs.FinishLaws.{some_ext, finite_point}
 use Rattle.making.proofs.Rules.{Found, intersect_meets, delay_meets, reset_meets, hull_meets}
@@ -67,20 +62,20 @@ canonical_normals : (n : ℕ) (L : List Vector) → canonical_held n (map (norma
 unfolding canonical_held canonical_of
 canonical_normals n L = ap (λ (b : Bool). cond b (sorted n (cleaned n (map (normal n) L))) []) (point_normals n L)
 
--- ---- working memory
--- it begins as zeros
-pub zeros_near : (m : ℕ) → Each 100000000 (replicate m (pos 0))
+-- ---- working memory that has no vector
+zeros_near : (m : ℕ) → Each 100000000 (replicate m (pos 0))
 zeros_near m = record { each = λ j l. at j (subst (λ (k : ℕ). j < k) (length-replicate m (pos 0)) l) }
   where
     at : (j : ℕ) → j < m → Within 100000000 (entries (replicate m (pos 0)) j)
     at j l = unfold number in rw (get_or-replicate m j (pos 0) (pos 0) l) (record { near = omega arith })
 
--- it has no fewer words than vectors
-pub room_all : (n k m room : ℕ) → (k + m) * suc n ≤ room → k + m ≤ room
-room_all n k m room h = omega (arith, mul-le-mul_left (k + m) one, mul-one (k + m))
-  where
-    one : 1 ≤ suc n
-    one = omega arith
+-- its words are within limits
+pub none_near : {work : List ℤ} → work ≡ replicate 1904 (pos 0) → Each 100000000 work
+none_near e = rw e (zeros_near 1904)
+
+-- it has 1904 words
+pub none_long : {work : List ℤ} → work ≡ replicate 1904 (pos 0) → length work ≡ 1904
+none_long e = ap length e ∙ length-replicate 1904 (pos 0)
 
 -- 272 vectors have room in 1904 words
 room_of : (n k : ℕ) → n ≤ 6 → k ≤ 272 → k * suc n ≤ 1904
@@ -93,50 +88,18 @@ room_of n k clocks few = omega (arith, all)
     all = mul-le-mul few wide
 
 -- so a list can be put into working memory, if at most 272 vectors stand there then
-pub growable : (change : Change) (n : ℕ) (l work : List ℤ) (k : ℕ) → n ≤ 6 → Each 1000000 l → ChangeLimits n change
-    → length work ≡ 1904 → k + count n l ≤ 272 → Growable n change l work k
-growable change n l work k clocks near limits long few = record {
+pub growable : (n : ℕ) (l work : List ℤ) (k : ℕ) → n ≤ 6 → Each 1000000 l
+    → length work ≡ 1904 → k + count n l ≤ 272 → Growable n l work k
+growable n l work k clocks near long few = record {
   clocks = clocks;
   near = near;
-  limits = limits;
   room = rw long (room_of n (k + count n l) clocks few);
 }
 
 -- ---- vectors put into it
--- how many vectors the code counts
-pub count_words : (n : ℕ) (l : List ℤ) → length l / (n + 1) ≡ count n l
-count_words n l = sym (rows_count n l) ∙ vectors_length n l
-
 -- counted by words or as a list, at most 32 vectors
 pub few_vectors_lem : (n : ℕ) (l : List ℤ) → count n l ≤ 32 → length (vectors n l) ≤ 32
 few_vectors_lem n l h = omega (arith, vectors_length n l)
-
-stay_all : (n : ℕ) (L : List Vector) → map (changed_by Stay n) L ≡ L
-stay_all n [] = refl
-stay_all n (v ∷ L) = ap (λ (A : List Vector). v ∷ A) (stay_all n L)
-
--- each vector of a list, changed; as it was
-pub each_grown : (change : Change) (n : ℕ) (l work : List ℤ) (k r : ℕ) (after : List ℤ) → r ≡ k + length l / (n + 1)
-    → Added n work k (map (changed_by change n) (vectors n l)) after
-    → Grown n work k (map (changed_by change n) (vectors n l)) r after
-each_grown change n l work k r after e a =
-    record { added = a; count = omega (arith, e, steps_count (changed_by change n) n l) }
-
--- with no vector changed, the list itself is put there
-pub stay_grown : (n : ℕ) (l work : List ℤ) (k r : ℕ) (after : List ℤ) → r ≡ k + length l / (n + 1)
-    → Added n work k (map (changed_by Stay n) (vectors n l)) after → Grown n work k (vectors n l) r after
-stay_grown n l work k r after e a =
-    subst (λ (A : List Vector). Grown n work k A r after) (stay_all n (vectors n l))
-    (each_grown Stay n l work k r after e a)
-
--- one list behind the other
-pub grown_append : (n : ℕ) (work : List ℤ) (k : ℕ) (A B : List Vector) (m r : ℕ) (mid after : List ℤ)
-    → Grown n work k A m mid → Grown n mid m B r after → Grown n work k (A ++ B) r after
-grown_append n work k A B m r mid after p q = record {
-  added = added_append n work k A B mid after p.added
-      (subst (λ (c : ℕ). Added n mid c B after) p.count q.added);
-  count = omega (arith, p.count, q.count, length-append A B);
-}
 
 -- the vectors of a list that has no point, and of one that has
 pub pointed_none : (n : ℕ) (l work : List ℤ) (k : ℕ) → has_point n l ≡ false
@@ -189,30 +152,25 @@ module _ (n : ℕ) (work : List ℤ) (L : List Vector) (k : ℕ) (after : List �
 -- ---- the two ways in which a call ends
 -- a contract P of a call whose checks find q and that makes the vectors L
 pub record Ends (P : Made → List ℤ → Type 0) (q : Checked) (n : ℕ) (L : List Vector) (area : List ℤ) : Type 0 where
-  pub refused : (k : Checked) → k ≡ q → tag_of the_type k ≡ 1 → (e : Refusal) → e ≡ why_of k → P (Refused e) area
-  pub made : (k : Checked) → k ≡ q → k ≡ Good → (work : List ℤ) (c : ℕ) (after : List ℤ) → Grown n work 0 L c after
+  pub refused : (e : Refusal) → Err e ≡ q → P (Err e) area
+  pub made : Ok tt ≡ q → (work : List ℤ) (c : ℕ) (after : List ℤ) → Grown n work 0 L c after
       → (r : Made) (out : List ℤ) → Finishes n (held (suc n) c after) area r out → P r out
 
 ends : (P : Made → List ℤ → Type 0) (q : Checked) (n : ℕ) (L : List Vector) (area : List ℤ)
     → P (make_after q n L area).made (make_after q n L area).area → Ends P q n L area
 ends P q n L area meets = record {
-  refused = λ k c t e w. rw w (refusing k t (rw c meets));
-  made = λ k c g work m after grown r out f.
+  refused = λ e w. found w;
+  made = λ w work m after grown r out f.
       let s = finished_same n work L m after grown area in
-      rw (f.made, f.area, s) (making (sym c ∙ g));
+      rw (f.made, f.area, s) (found w);
 }
   where
-    refusing : (k : Checked) → tag_of the_type k ≡ 1 → P (make_after k n L area).made (make_after k n L area).area
-        → P (Refused (why_of k)) area
-    refusing Good t p = absurd (omega arith)
-    refusing (CheckedRefused e) t p = p
-
-    making : q ≡ Good → P (finished n (canonical_of n L) area).made (finished n (canonical_of n L) area).area
-    making e = subst (λ (k : Checked). P (make_after k n L area).made (make_after k n L area).area) e meets
+    found : {k : Checked} → k ≡ q → P (make_after k n L area).made (make_after k n L area).area
+    found w = subst (λ (k : Checked). P (make_after k n L area).made (make_after k n L area).area) (sym w) meets
 
 -- input that passed the checks is good
-pub passed : (c : Input) (n : ℕ) {k q : Checked} → Found c n q → k ≡ q → k ≡ Good → GoodInput c
-passed c n f e g = subst (Found c n) (sym e ∙ g) f
+pub passed : (c : Input) (n : ℕ) {q : Checked} → Found c n q → Ok tt ≡ q → GoodInput c
+passed c n f e = subst (Found c n) (sym e) f
 
 -- ---- the four calls
 -- delay, whose points are copied among the rays

@@ -3,13 +3,12 @@ use mathlib.Core.List.{List, [], ◌∷◌, ◌++◌, map}
 use mathlib.Core.Bool.{Bool, true, false}
 use mathlib.Core.Path.{◌≡◌, refl, sym, ◌∙◌, ap, subst}
 use Prim.Native.Nat.{ℕ, suc, ◌+◌, ◌≤◌, ◌<◌}
-use native.Mathlib.Nat.{zero-add}
 use native.Mathlib.Decide.{ℕ_discrete}
 use native.Mathlib.Omega.{arith}
 use lib.IntN.{ℤ, pos, negsuc}
 use lib.ListN.{length, get_or, set, take, drop, replicate}
 use lib.ListN.{length-map, length-set, length-append, length-drop, get_or-append}
-use lib.Seq.{get_or-take, get_or-set_same, get_or-set_other, get_or-append-add, length-take-le, take_all, ext_get_or}
+use lib.Seq.{get_or-take, get_or-set_same, get_or-set_other, get_or-append-add, length-take-le, ext_get_or}
 use mir.Syntax.{w32}
 use mir.Val.{SFits}
 use Rattle.numbers.specs.Numbers.{Num, −∞, fin, ◌⊗◌, Within, nought, million}
@@ -18,31 +17,30 @@ use Rattle.numbers.specs.Places.{entries, Ended}
 use Rattle.numbers.proofs.NumberLaws.{wider, ⊗_within}
 use Rattle.numbers.proofs.WordLaws.{number_mark}
 use Rattle.algebra.specs.Vectors.{Vector, entry}
+use Rattle.algebra.specs.Working.{to_ray, reset_vector}
 use Rattle.sets.specs.Limits.{Between}
 use Rattle.sets.proofs.FlatLaws.{number_at}
-use Rattle.sorting.specs.Rows.{put}
-use Rattle.making.specs.declared.build.Change.{Change}
-use Rattle.making.specs.declared.build.Change.TheVariants.{Stay, Ray, Replace}
-use Rattle.making.specs.Change.{changed_by, Changeable, Changes}
+use Rattle.making.specs.Limits.{ResetLimits}
+use Rattle.making.specs.Change.{Changeable, Changes}
 use Rattle.making.proofs.PushLaws.{words_entry}
 
 -- seven words hold a vector whose entries they have
-module _ (n : ℕ) (change : Change) (v words : List ℤ) (p : Changeable n change v) (long : length words ≡ 7) where
+module _ (n : ℕ) (v words : List ℤ) (p : Changeable n v) (long : length words ≡ 7) where
   part : length (take (suc n) words) ≡ suc n
   part = length-take-le (suc n) words (omega (arith, p.clocks))
 
   at : (j : ℕ) → j < suc n → entries (take (suc n) words) j ≡ entries words j
   at j l = ap number (get_or-take (suc n) words j (pos 0) l)
 
-  -- seven words are the changed vector if their first n + 1 entries are its entries, and within limits
-  pub changes_by : (u : Vector) → length u ≡ suc n → changed_by change n (map number v) ≡ u
+  -- seven words are a vector if their first n + 1 entries are its entries, and within limits
+  pub changes_by : (u : Vector) → length u ≡ suc n
       → ((j : ℕ) → j < suc n → entries words j ≡ entry u j) → ((j : ℕ) → j < suc n → Within 10000000 (entries words j))
-      → Changes n change v words
-  changes_by u e q same near = record {
+      → Changes n u words
+  changes_by u e same near = record {
     long = long;
     right = ext_get_or −∞ (map number (take (suc n) words)) u (length-map (take (suc n) words) number ∙ part ∙ sym e)
         (λ j l. let b : j < suc n = omega (arith, length-map (take (suc n) words) number, part) in
-        number_at (take (suc n) words) j (omega (arith, part)) ∙ at j b ∙ same j b) ∙ sym q;
+        number_at (take (suc n) words) j (omega (arith, part)) ∙ at j b ∙ same j b);
     near = record {
       each = λ j l. let b : j < suc n = omega (arith, part) in
           subst (λ (x : Num). Within 10000000 x) (sym (at j b)) (near j b);
@@ -51,11 +49,7 @@ module _ (n : ℕ) (change : Change) (v words : List ℤ) (p : Changeable n chan
 
 -- the words copied into seven zeros
 module _ (n : ℕ) (v words : List ℤ) (h : n ≤ 6) (e : length v ≡ suc n)
-    (is : words ≡ put (replicate 7 (pos 0)) 0 (take (n + 1) (drop 0 v)) (n + 1)) where
-  -- they are the vector, then zeros
-  pub joined : words ≡ v ++ drop (n + 1) (replicate 7 (pos 0))
-  joined = unfold put in is ∙ rw (zero-add (n + 1), take_all (n + 1) v (omega arith))
-
+    (joined : words ≡ v ++ drop (n + 1) (replicate 7 (pos 0))) where
   -- there are seven of them
   pub copied_long : length words ≡ 7
   copied_long = ap length joined ∙ length-append v (drop (n + 1) (replicate 7 (pos 0)))
@@ -66,20 +60,11 @@ module _ (n : ℕ) (v words : List ℤ) (h : n ≤ 6) (e : length v ≡ suc n)
   copied_at j l = ap (λ (w : List ℤ). get_or w j (pos 0)) joined
       ∙ get_or-append v (drop (n + 1) (replicate 7 (pos 0))) (pos 0) j (omega arith)
 
--- a vector that stays
-pub changes_stay : (n : ℕ) (v words : List ℤ) → Changeable n Stay v
-    → words ≡ put (replicate 7 (pos 0)) 0 (take (n + 1) (drop 0 v)) (n + 1) → Changes n Stay v words
-changes_stay n v words p is =
-    changes_by n Stay v words p (copied_long n v words p.clocks p.long is) (map number v)
-    (length-map v number ∙ p.long) refl
-    (λ j l. ap number (copied_at n v words p.clocks p.long is j l) ∙ sym (words_entry n v p.long j l))
-    (λ j l. subst (λ (z : ℤ). Within 10000000 (number z)) (sym (copied_at n v words p.clocks p.long is j l))
-    (wider (omega arith) (p.near.each j (omega (arith, p.long)))))
-
 -- a vector that becomes a ray
-pub changes_ray : (n : ℕ) (v words : List ℤ) → Changeable n Ray v → Ended (take n v) mark words → Changes n Ray v words
-changes_ray n v words p m = changes_by n Ray v words p m.long (set (map number v) n −∞)
-    (length-set (map number v) n −∞ ∙ length-map v number ∙ p.long) refl (λ j l. same j l (ℕ_discrete j n))
+pub changes_ray : (n : ℕ) (v words : List ℤ) → Changeable n v → Ended (take n v) mark words
+    → Changes n (to_ray n (map number v)) words
+changes_ray n v words p m = changes_by n v words p m.long (set (map number v) n −∞)
+    (length-set (map number v) n −∞ ∙ length-map v number ∙ p.long) (λ j l. same j l (ℕ_discrete j n))
     (λ j l. near j l (ℕ_discrete j n))
   where
     front : length (take n v) ≡ n
@@ -129,19 +114,19 @@ value_near c h =
     by (negsuc k) a b = record { near = omega arith }
 
 -- a vector whose clock is replaced: x is the value at a point, −∞ at a ray
-pub changes_replace : (n i : ℕ) (c x : ℤ) (v words : List ℤ) → Changeable n (Replace i c) v
-    → words ≡ put (replicate 7 (pos 0)) 0 (take (n + 1) (drop 0 v)) (n + 1) → number x ≡ number c ⊗ entries v n
-    → Changes n (Replace i c) v (set words i x)
-changes_replace n i c x v words p is e = changes_by n (Replace i c) v (set words i x) p (length-set words i x ∙ long)
+pub changes_replace : (n i : ℕ) (c x : ℤ) (v words : List ℤ) → Changeable n v → ResetLimits n i c
+    → words ≡ v ++ drop (n + 1) (replicate 7 (pos 0)) → number x ≡ number c ⊗ entries v n
+    → Changes n (reset_vector n i c (map number v)) (set words i x)
+changes_replace n i c x v words p limits is e = changes_by n v (set words i x) p (length-set words i x ∙ long)
     (set (map number v) i (fin c ⊗ entry (map number v) n))
     (length-set (map number v) i (fin c ⊗ entry (map number v) n) ∙ length-map v number ∙ p.long)
-    refl (λ j l. same j l (ℕ_discrete j i)) (λ j l. near j l (ℕ_discrete j i))
+    (λ j l. same j l (ℕ_discrete j i)) (λ j l. near j l (ℕ_discrete j i))
   where
     long : length words ≡ 7
     long = copied_long n v words p.clocks p.long is
 
     new : number x ≡ fin c ⊗ entry (map number v) n
-    new = e ∙ rw (value_fin c p.limits.value)
+    new = e ∙ rw (value_fin c limits.value)
         (ap (λ (y : Num). fin c ⊗ y) (sym (words_entry n v p.long n (omega arith))))
 
     same : (j : ℕ) → j < suc n → Dec (j ≡ i)
@@ -151,7 +136,7 @@ changes_replace n i c x v words p is e = changes_by n (Replace i c) v (set words
         (sym q)
         (ap number (get_or-set_same words i x (pos 0) (omega (arith, long))) ∙ new
         ∙ sym (get_or-set_same (map number v) i (fin c ⊗ entry (map number v) n) −∞
-        (omega (arith, length-map v number, p.long, p.limits.clock))))
+        (omega (arith, length-map v number, p.long, limits.clock))))
     same j l (no q) =
         ap number (get_or-set_other words i j x (pos 0) q ∙ copied_at n v words p.clocks p.long is j l)
         ∙ sym (words_entry n v p.long j l)
@@ -160,9 +145,9 @@ changes_replace n i c x v words p is e = changes_by n (Replace i c) v (set words
     near : (j : ℕ) → j < suc n → Dec (j ≡ i) → Within 10000000 (entries (set words i x) j)
     near j l (yes q) = subst (λ (k : ℕ). Within 10000000 (entries (set words i x) k)) (sym q)
         (subst (λ (z : ℤ). Within 10000000 (number z)) (sym (get_or-set_same words i x (pos 0) (omega (arith, long))))
-        (subst (λ (y : Num). Within 10000000 y) (sym (e ∙ rw (value_fin c p.limits.value)))
+        (subst (λ (y : Num). Within 10000000 y) (sym (e ∙ rw (value_fin c limits.value)))
         (wider {k = 2000000} (omega arith)
-        (⊗_within {x = fin c} (value_near c p.limits.value) (p.near.each n (omega (arith, p.long)))))))
+        (⊗_within {x = fin c} (value_near c limits.value) (p.near.each n (omega (arith, p.long)))))))
     near j l (no q) = subst (λ (z : ℤ). Within 10000000 (number z))
         (sym (get_or-set_other words i j x (pos 0) q ∙ copied_at n v words p.clocks p.long is j l))
         (wider (omega arith) (p.near.each j (omega (arith, p.long))))

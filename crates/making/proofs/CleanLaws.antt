@@ -1,4 +1,5 @@
 -- The flags of cleaning, vector by vector.
+use Rattle.std.proofs.Common.{Option}
 use mathlib.Core.Bool.{Bool, true, false, cond}
 use mathlib.Core.List.{List}
 use mathlib.Core.Path.{◌≡◌, refl, sym, ◌∙◌, ap}
@@ -23,7 +24,7 @@ use Rattle.making.specs.Clean.{try_one, clean_from, clean_flags}
 -- ---- one vector tried: vector i of the work's vectors of w words, lent as x
 module _ (w m : ℕ) (work : List ℤ) (used : List Bool) (i : ℕ) (x : List ℤ) where
   -- the vectors in use generate it exactly if it falls short nowhere
-  pub short_attained : (s : Short) → x ≡ part work (i * w) w → i * w + w ≤ length work
+  pub short_attained : (s : Option Short) → x ≡ part work (i * w) w → i * w + w ≤ length work
       → Falls (length x) (reach_of work m used x) (entries x) s
       → attained w m (masked used (flat w work)) (flat w work i) ≡ nowhere s
   unfolding attained

@@ -1,9 +1,10 @@
 -- The canonical list of the vectors in working memory, as the steps of the code find it.
+use Rattle.std.proofs.Common.{Err, Ok}
 use mathlib.Core.Bool.{Bool, true, false, cond}
 use mathlib.Core.List.{List, [], ◌∷◌, ◌++◌}
 use mathlib.Core.Path.{◌≡◌, refl, sym, ◌∙◌, ap, subst}
 use Prim.Native.Nat.{ℕ, zero, suc, ◌+◌, ◌*◌, ◌/◌, ◌≤◌, ◌<◌}
-use native.Mathlib.Nat.{zero-add, mul-div_cancel, mul-le-mul_right}
+use native.Mathlib.Nat.{mul-div_cancel, mul-le-mul_right}
 use native.Mathlib.Omega.{arith}
 use lib.Dec.{leb}
 use lib.IntN.{ℤ}
@@ -23,13 +24,12 @@ use Rattle.sets.specs.Tests.{finite}
 use Rattle.sets.specs.Rules.{flat, has_point}
 use Rattle.sets.specs.Falls.{masked}
 use Rattle.sets.proofs.Membership.{attained_ext}
-use Rattle.sorting.specs.Rows.{held, put}
+use Rattle.sorting.specs.Rows.{held}
 use Rattle.sorting.specs.Emit.{IsKind, Stands, Sorted, Many}
 use Rattle.sorting.proofs.Held.{held_length, held_long, held_at, held_take, words_held}
 use Rattle.sorting.proofs.Order.{same_vector}
 use Rattle.sorting.proofs.Settled.{not_longer}
-use Rattle.making.specs.declared.Made.{Made}
-use Rattle.making.specs.declared.Made.TheVariants.{Vectors, Refused}
+use Rattle.making.specs.Types.{Made}
 use Rattle.making.specs.Clean.{try_one, clean_from, clean_flags, kept, sorted, cleaned}
 use Rattle.making.specs.Rules.{entry_ok, range_ok, refused_by, written, finished}
 use Rattle.making.specs.Finish.{Cleanable, Writable, Writes, sorted_alive, Finishable, Finishes}
@@ -39,10 +39,10 @@ use Rattle.making.proofs.Existence.{Sorts, sorts_same, sorted_sorts}
 
 -- ---- a list written, or refused
 written_few : (R : List Vector) (area : List ℤ) → length R ≤ 32
-    → written R area ≡ record { made = Vectors (length R); area = words R ++ drop (length (words R)) area }
+    → written R area ≡ record { made = Ok (length R); area = words R ++ drop (length (words R)) area }
 written_few R area h = let e : leb (length R) 32 ≡ true = passes (tells_leb (length R) 32) h in rw e
 
-written_many : (R : List Vector) (area : List ℤ) → ¬ (length R ≤ 32) → written R area ≡ refused_by (Refused Gens) area
+written_many : (R : List Vector) (area : List ℤ) → ¬ (length R ≤ 32) → written R area ≡ refused_by (Err Gens) area
 written_many R area h = let e : leb (length R) 32 ≡ false = fails (tells_leb (length R) 32) h in rw e
 
 -- ---- the vectors that are on, sorted
@@ -107,21 +107,21 @@ front_ends n k size h b = omega (arith, mul-le-mul_right (suc n) h, b)
 
 module _ (n : ℕ) (work : List ℤ) (alive : List Bool) (area : List ℤ) (g : Writable n work alive area) where
   -- too many
-  pub writes_many : Many n (suc n) work (length alive) alive → Writes n work alive area (Refused Gens) area
+  pub writes_many : Many n (suc n) work (length alive) alive → Writes n work alive area (Err Gens) area
   writes_many t =
       let l = too_long n work (length alive) g.whole g.kinds alive t in
       let e = written_many (sorted_alive n work alive) area l in
       record { made = ap (λ r. r.made) (sym e); area = ap (λ r. r.area) (sym e) }
 
-  -- the words of those that were emitted are put in front
-  pub writes_done : (k : ℕ) (before result : List ℤ) → Sorted n (suc n) work (length alive) alive k before result
-      → k * suc n ≤ length result
-      → Writes n work alive area (Vectors k) (put area 0 (take (k * suc n) (drop 0 result)) (k * suc n))
-  unfolding put
-  writes_done k before result s l = record {
-    made = ap Vectors (sym count) ∙ ap (λ r. r.made) (sym e);
-    area = ap (λ z. take (k * suc n) result ++ drop z area) (zero-add (k * suc n) ∙ sym size)
-        ∙ ap (λ w. w ++ drop (length w) area) (sym front) ∙ ap (λ r. r.area) (sym e);
+  -- the words of those that were emitted stand in front
+  pub writes_done : (k : ℕ) (before result front : List ℤ) → Sorted n (suc n) work (length alive) alive k before result
+      → k * suc n ≤ length result → front ≡ take (k * suc n) result
+      → Writes n work alive area (Ok k) (front ++ drop (k * suc n) area)
+  writes_done k before result front s l q = record {
+    made = ap Ok (sym count) ∙ ap (λ r. r.made) (sym e);
+    area = ap (λ z. z ++ drop (k * suc n) area) q
+        ∙ ap (λ z. take (k * suc n) result ++ drop z area) (sym size)
+        ∙ ap (λ w. w ++ drop (length w) area) (sym all) ∙ ap (λ r. r.area) (sym e);
   }
     where
       R : List Vector
@@ -133,13 +133,13 @@ module _ (n : ℕ) (work : List ℤ) (alive : List Bool) (area : List ℤ) (g : 
       count : length R ≡ k
       count = ap length (sym same) ∙ held_length (suc n) k result
 
-      front : words R ≡ take (k * suc n) result
-      front = ap words (sym same) ∙ words_held (suc n) k result l
+      all : words R ≡ take (k * suc n) result
+      all = ap words (sym same) ∙ words_held (suc n) k result l
 
       size : length (take (k * suc n) result) ≡ k * suc n
       size = length-take-le (k * suc n) result l
 
-      e : written R area ≡ record { made = Vectors (length R); area = words R ++ drop (length (words R)) area }
+      e : written R area ≡ record { made = Ok (length R); area = words R ++ drop (length (words R)) area }
       e = written_few R area (omega (arith, count, s.few))
 
 -- ---- the flags that cleaning leaves depend only on the entries of the vectors
@@ -238,17 +238,17 @@ module _ (n : ℕ) (work : List ℤ) (k : ℕ) (area : List ℤ) (g : Finishable
           ∙ ap (λ A. family A i n) (sym (held_take (suc n) k work g.whole)))
 
   -- without a point the list is empty
-  pub finishes_none : some_point n L ≡ false → Finishes n L area (Vectors 0) area
+  pub finishes_none : some_point n L ≡ false → Finishes n L area (Ok 0) area
   unfolding canonical_held finished range_ok words
   finishes_none e = record { made = ap (λ r. r.made) (sym same); area = ap (λ r. r.area) (sym same) }
     where
       empty : canonical_held n L ≡ []
       empty = ap (λ b. cond b (sorted n (cleaned n L)) []) e
 
-      none : finished n [] area ≡ record { made = Vectors 0; area = area }
+      none : finished n [] area ≡ record { made = Ok 0; area = area }
       none = refl
 
-      same : finished n (canonical_held n L) area ≡ record { made = Vectors 0; area = area }
+      same : finished n (canonical_held n L) area ≡ record { made = Ok 0; area = area }
       same = ap (λ R. finished n R area) empty ∙ none
 
   -- with k flags on, the vectors can be cleaned
@@ -312,14 +312,14 @@ module _ (n : ℕ) (work : List ℤ) (k : ℕ) (area : List ℤ) (g : Finishable
             fine_same n (λ j b. entry_flat i j m b ∙ sym (e j b)) (h i (subst (λ c. i < c) (sym flags_long) m) o.1)
 
     result : some_point n L ≡ true → (b : Bool) → alive_ok n flags (flat (suc n) work) ≡ b
-        → finished n (canonical_held n L) area ≡ cond b (written R area) (refused_by (Refused Range) area)
+        → finished n (canonical_held n L) area ≡ cond b (written R area) (refused_by (Err Range) area)
     unfolding finished
     result p b e = ap (λ A. finished n A area) (canonical p)
-        ∙ ap (λ t. cond t (written R area) (refused_by (Refused Range) area)) (sym range ∙ e)
+        ∙ ap (λ t. cond t (written R area) (refused_by (Err Range) area)) (sym range ∙ e)
 
     -- beyond the limits, or written
     pub finishes_range : some_point n L ≡ true → alive_ok n flags (flat (suc n) work) ≡ false
-        → Finishes n L area (Refused Range) area
+        → Finishes n L area (Err Range) area
     finishes_range p e =
         let q = result p false e in
         record { made = ap (λ r. r.made) (sym q); area = ap (λ r. r.area) (sym q) }

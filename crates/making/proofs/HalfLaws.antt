@@ -1,18 +1,24 @@
 -- The vectors that a half-space makes, put into working memory pair by pair.
-use mathlib.Core.Bool.{cond}
+use mathlib.Core.Bool.{Bool, true, false, cond}
 use mathlib.Core.List.{List, [], ◌∷◌, ◌++◌, map, append-nil}
 use mathlib.Core.Path.{◌≡◌, refl, sym, ◌∙◌, ap, subst}
 use Prim.Native.Nat.{ℕ, zero, suc, ◌+◌, ◌-◌, ◌*◌, ◌/◌, ◌≤◌, ◌<◌}
 use native.Mathlib.Nat.{add-zero, mul-le-mul_right}
 use native.Mathlib.Numerals.{add-one}
 use native.Mathlib.Omega.{arith}
-use lib.IntN.{ℤ, pos}
-use lib.ListN.{length, take, drop, replicate, length-map, length-append, length-drop}
+use lib.IntN.{ℤ}
+use lib.Signed.{lt_z, le_z, mag}
+use mir.Syntax.{w32}
+use mir.Val.{SFits, of_z, to_z}
+use mir.Facts.{to_z-of_z}
+use lib.ListN.{length, take, drop, length-map, length-append, length-drop}
 use lib.Seq.{take_at, take_all, ext_get_or}
 use Rattle.numbers.specs.Numbers.{Num, −∞, ◌≼◌, ◌⊗◌, ◌⊕◌, Within}
 use Rattle.numbers.specs.Words.{number}
 use Rattle.numbers.specs.Places.{Each, Mixed}
+use Rattle.numbers.proofs.IntegerLaws.{zarith}
 use Rattle.numbers.proofs.Tells.{passes, fails}
+use Rattle.numbers.proofs.WordLaws.{number_mono, number_strict}
 use Rattle.numbers.proofs.NumberLaws.{tells_at_most, wider, ⊗_within, ⊕_within}
 use Rattle.numbers.proofs.PlaceLaws.{side_within}
 use Rattle.algebra.specs.Vectors.{Vector, entry, vector, vectors, count, tab}
@@ -25,10 +31,8 @@ use Rattle.sets.proofs.FlatLaws.{number_at}
 use Rattle.sets.proofs.FallLaws.{each_part}
 use Rattle.making.specs.Work.{Added, Grown, Sides, RoomOf}
 use Rattle.making.specs.Work.{up_to, mixed_of, side_word, cross_at, crossings_at, crosses_at, crossed_list}
-use Rattle.sorting.specs.Rows.{put}
 use Rattle.making.proofs.PushLaws.{words_entry}
-use Rattle.making.proofs.ChangeLaws.{joined}
-use Rattle.making.proofs.BuildLaws.{added_none, added_append, row_vector, rows_count}
+use Rattle.making.proofs.BuildLaws.{added_none, added_append, grown_append, row_vector, rows_count}
 use Rattle.making.proofs.WorkingLists.{intersect_few}
 
 -- ---- lists made index by index
@@ -149,10 +153,8 @@ module _ (n : ℕ) (g h ys : List ℤ) (l r : Num)
   }
 
 -- the first words of seven into which a vector was copied
-pub copied_part : (n : ℕ) (v words : List ℤ) → n ≤ 6 → length v ≡ suc n
-    → words ≡ put (replicate 7 (pos 0)) 0 (take (n + 1) (drop 0 v)) (n + 1) → take (n + 1) words ≡ v
-copied_part n v words h e is = ap (take (n + 1)) (joined n v words h e is)
-    ∙ take_at v (drop (n + 1) (replicate 7 (pos 0))) (n + 1) (e ∙ sym (add-one n))
+pub copied_part : (n : ℕ) (v rest : List ℤ) → length v ≡ suc n → take (n + 1) (v ++ rest) ≡ v
+copied_part n v rest e = take_at v rest (n + 1) (e ∙ sym (add-one n))
 
 -- ---- one pair
 -- vectors are counted by their words
@@ -186,11 +188,10 @@ module _ (n : ℕ) (work : List ℤ) (k : ℕ) (ls rs : List ℤ) (L : List Vect
   cross_is h = rw (fails (tells_at_most (side_word ls j) (side_word rs j)) h)
 
   -- that vector is put behind the others
-  pub cross_one : (after : List ℤ) → ¬ (side_word ls j ≼ side_word rs j)
-      → Added n work k (mixed_of n (side_word ls j) (vector L i) (side_word rs i) (vector L j) ∷ []) after
-      → Grown n work k (cross_at n ls rs L i j) (k + 1) after
-  cross_one after h a = subst (λ (A : List Vector). Grown n work k A (k + 1) after) (sym (cross_is h))
-      (record { added = a; count = refl })
+  pub cross_one : (c : ℕ) (after : List ℤ) → ¬ (side_word ls j ≼ side_word rs j)
+      → Grown n work k (mixed_of n (side_word ls j) (vector L i) (side_word rs i) (vector L j) ∷ []) c after
+      → Grown n work k (cross_at n ls rs L i j) c after
+  cross_one c after h g = subst (λ (A : List Vector). Grown n work k A c after) (sym (cross_is h)) g
 
   -- and there is room for it
   pub cross_room : ¬ (side_word ls j ≼ side_word rs j) → RoomOf n work k (cross_at n ls rs L i j)
@@ -217,12 +218,10 @@ module _ (n : ℕ) (work : List ℤ) (k : ℕ) (ls rs : List ℤ) (L : List Vect
     keep_is = rw (passes (tells_at_most (side_word ls i) (side_word rs i)) h)
 
     -- vector i and then what it gives with each are put behind the others
-    pub keep_all : (c : ℕ) (mid after : List ℤ) → Added n work k (vector L i ∷ []) mid
-        → Grown n mid (k + 1) (crossings_at n ls rs L i) c after → Grown n work k (crosses_at n ls rs L i) c after
-    keep_all c mid after p q = subst (λ (A : List Vector). Grown n work k A c after) (sym keep_is) (record {
-      added = added_append n work k (vector L i ∷ []) (crossings_at n ls rs L i) mid after p q.added;
-      count = q.count ∙ omega arith;
-    })
+    pub keep_all : (m c : ℕ) (mid after : List ℤ) → Grown n work k (vector L i ∷ []) m mid
+        → Grown n mid m (crossings_at n ls rs L i) c after → Grown n work k (crosses_at n ls rs L i) c after
+    keep_all m c mid after p q = subst (λ (A : List Vector). Grown n work k A c after) (sym keep_is)
+        (grown_append n work k (vector L i ∷ []) (crossings_at n ls rs L i) m c mid after p q)
 
     whole : RoomOf n work k (crosses_at n ls rs L i) → (k + suc (length (crossings_at n ls rs L i))) * suc n ≤ length work
     whole r = subst (λ (A : List Vector). (k + length A) * suc n ≤ length work) keep_is r.room
@@ -232,9 +231,10 @@ module _ (n : ℕ) (work : List ℤ) (k : ℕ) (ls rs : List ℤ) (L : List Vect
     keep_room r = row_ends k (k + suc (length (crossings_at n ls rs L i))) (suc n) (length work) (omega arith) (whole r)
 
     -- and behind it for what it gives
-    pub keep_rest : (mid : List ℤ) → length mid ≡ length work → RoomOf n work k (crosses_at n ls rs L i)
-        → RoomOf n mid (k + 1) (crossings_at n ls rs L i)
-    keep_rest mid e r = record { room = rw e (subst (λ (x : ℕ). x * suc n ≤ length work) (omega arith) (whole r)) }
+    pub keep_rest : (m : ℕ) (mid : List ℤ) → m ≡ k + 1 → length mid ≡ length work
+        → RoomOf n work k (crosses_at n ls rs L i) → RoomOf n mid m (crossings_at n ls rs L i)
+    keep_rest m mid q e r =
+        record { room = rw e (subst (λ (x : ℕ). x * suc n ≤ length work) (omega (arith, q)) (whole r)) }
 
 -- ---- the two sides of a half-space, as the code lends them
 module _ (n : ℕ) (half : List ℤ) (e : length half ≡ 2 * suc n) where
@@ -294,3 +294,25 @@ crossed_room n ab cd list ls rs work few room p q = record {
   where
     most : 0 + length (intersect_list n ab cd (vectors n list)) ≤ 272
     most = omega (arith, intersect_few n (vectors n list) (rw (rows_count n list, add-one n) few) ab cd)
+
+-- ---- the words l and r of the sides at a vector, by the test `l <= r` on bits
+module _ (l r : ℤ) (fl : mag l < 2147483648) (fr : mag r < 2147483648) where
+  -- the test passed: the vector satisfies
+  pub side_enough : le_z (to_z w32 (of_z w32 l)) (to_z w32 (of_z w32 r)) ≡ true → number l ≼ number r
+  side_enough e =
+      let f : SFits w32 l = record { sfits = fl } in
+      let g : SFits w32 r = record { sfits = fr } in
+      let h : le_z l r ≡ true = rw (to_z-of_z f, to_z-of_z g) at e in
+      number_mono f g (omega zarith)
+
+  -- it failed: the vector violates
+  pub side_short : le_z (to_z w32 (of_z w32 l)) (to_z w32 (of_z w32 r)) ≡ false → ¬ (number l ≼ number r)
+  side_short e =
+      let f : SFits w32 l = record { sfits = fl } in
+      let g : SFits w32 r = record { sfits = fr } in
+      let h : le_z l r ≡ false = rw (to_z-of_z f, to_z-of_z g) at e in
+      number_strict g f (turned (lt_z r l) refl h)
+    where
+      turned : (b : Bool) → lt_z r l ≡ b → le_z l r ≡ false → lt_z r l ≡ true
+      turned true q h = q
+      turned false q h = absurd (omega zarith)

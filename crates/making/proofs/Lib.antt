@@ -1,3 +1,4 @@
+pub mod Rows
 pub mod InputLaws
 pub mod WorkLaws
 pub mod PushLaws

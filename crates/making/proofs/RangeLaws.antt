@@ -3,13 +3,14 @@ use mathlib.Core.Bool.{Bool, true, false, not, cond}
 use mathlib.Core.List.{List}
 use mathlib.Core.Logic.{◌⊎◌, inl, inr}
 use mathlib.Core.Path.{◌≡◌, refl, ◌∙◌, ap}
-use Prim.Native.Nat.{ℕ, zero, suc, ◌+◌, ◌-◌, ◌*◌, ◌≤◌, ◌<◌}
+use Prim.Native.Nat.{ℕ, zero, suc, ◌+◌, ◌*◌, ◌≤◌, ◌<◌}
 use native.Mathlib.Numerals.{add-one}
 use native.Mathlib.Omega.{arith}
 use borrow.Author.Tests.{eqb-false}
 use lib.Dec.{eqb, eqb→eq}
 use lib.IntN.{ℤ, pos, negsuc}
-use lib.ListN.{take, drop}
+use lib.ListN.{length, take}
+use lib.Seq.{get_or-take, length-take-le}
 use lib.Signed.{le_z, mag}
 use mir.Syntax.{w32}
 use mir.Val.{SFits, of_z, to_z}
@@ -20,9 +21,11 @@ use Rattle.numbers.specs.Tests.{every}
 use Rattle.numbers.proofs.WordLaws.{Marked, Finite, seen, is_mark_lem, not_mark, back}
 use Rattle.algebra.specs.Working.{is_point}
 use Rattle.sets.specs.Rules.{flat}
-use Rattle.sets.proofs.RowLaws.{row_ends, part_is}
+use Rattle.sets.specs.Tests.{part}
+use Rattle.sets.proofs.RowLaws.{row_ends}
 use Rattle.sets.proofs.FlatLaws.{part_flat}
 use Rattle.making.specs.Rules.{entry_ok}
+use Rattle.making.proofs.Rows.{every_ext}
 use Rattle.making.specs.Finish.{row_ok}
 
 -- an entry of a point: the mark is within the limits
@@ -69,11 +72,10 @@ row_ext n X Y e = go n (omega arith)
 pub row_room : (n i m k : ℕ) → i < m → m * suc n ≤ k → i * (n + 1) + (n + 1) ≤ k
 row_room n i m k l h = row_ends i m (n + 1) k l (rw (add-one n) h)
 
--- the test of the vector lent as vector i
-pub row_test : (n : ℕ) (work : List ℤ) (i : ℕ)
-    → row_ok n (entries (take (i * (n + 1) + (n + 1) - i * (n + 1)) (drop (i * (n + 1)) work)))
-    ≡ row_ok n (flat (n + 1) work i)
-row_test n work i = ap (λ (v : List ℤ). row_ok n (entries v)) (part_is work (i * (n + 1)) (n + 1))
+-- the test of vector i
+pub row_test : (n : ℕ) (work v : List ℤ) (i : ℕ) → v ≡ part work (i * (n + 1)) (n + 1)
+    → row_ok n (entries v) ≡ row_ok n (flat (n + 1) work i)
+row_test n work v i e = ap (λ (v : List ℤ). row_ok n (entries v)) e
     ∙ row_ext n _ _ (λ j b. part_flat (n + 1) work i j b)
 
 -- a vector is within the limits if its flag is off, or if it passes
@@ -85,3 +87,10 @@ module _ (b r : Bool) where
   -- on: its test decides
   pub on_is : b ≡ true → cond b r true ≡ r
   on_is e = rw e
+
+-- the test of the words before the last
+pub row_front : (n : ℕ) (v : List ℤ) → n ≤ length v
+    → every (length (take n v)) (λ j. entry_ok (is_point (entries v n)) (entries (take n v) j)) ≡ row_ok n (entries v)
+unfolding row_ok
+row_front n v h = rw (length-take-le n v h)
+    (every_ext n (λ j l. ap (λ x. entry_ok (is_point (entries v n)) (number x)) (get_or-take n v j (pos 0) l)))

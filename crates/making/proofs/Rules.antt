@@ -1,4 +1,5 @@
 -- The rule of each making call meets its contract.
+use Rattle.std.proofs.Common.{Err, Ok}
 use mathlib.Core.Bool.{Bool, true, false, ◌&&◌, cond}
 use mathlib.Core.List.{List, ◌++◌}
 use mathlib.Core.Logic.{◌⊎◌, inl, inr, ◌↔◌}
@@ -18,15 +19,13 @@ use Rattle.algebra.specs.Vectors.{Vector, entry, vector, vectors, words, IsPoint
 use Rattle.algebra.specs.Sets.{Set, In, set_of}
 use Rattle.algebra.specs.Wanted.{left, right, Intersected, Delayed, Reset, Hull}
 use Rattle.algebra.specs.Working.{is_point, intersect_list, delay_list, reset_list, hull_list}
-use Rattle.sets.specs.declared.Checked.{Checked}
-use Rattle.sets.specs.declared.Checked.TheVariants.{Good, Refused as CheckedRefused}
+use Rattle.sets.specs.Types.{Checked}
 use Rattle.sets.specs.Limits.{Clocks, Whole, ListLimits}
 use Rattle.sets.specs.Demands.{MetBelow, Refuses, Input, Good as GoodInput}
 use Rattle.sets.specs.Tests.{tight, words_ok, whole_ok, list_ok}
 use Rattle.sets.specs.Rules.{checked}
 use Rattle.sets.proofs.TestLaws.{tells_whole, tells_words, tells_list}
 use Rattle.sets.proofs.Membership.{kinds}
-use Rattle.making.specs.declared.Made.TheVariants.{Vectors, Refused}
 use Rattle.making.specs.Limits.{Roomy, HalfLimits, ResetLimits, InRange}
 use Rattle.making.specs.Answers.{given_by, making, Outcome, Makes}
 use Rattle.making.specs.Calls.{intersect_input, Intersects, delay_input, Delays}
@@ -97,7 +96,7 @@ module _ (c : Input) (n : ℕ) (R : List Vector) where
 
   -- the words of R in front of what the area had behind them
   front : List ℤ → Result
-  front area = record { made = Vectors (length R); area = words R ++ drop (length (words R)) area }
+  front area = record { made = Ok (length R); area = words R ++ drop (length (words R)) area }
 
   -- good input: the result R, or RANGE or GENS
   finished_allowed : GoodInput c → PointsAndRays n R → (area : List ℤ) → Allowed area (finished n R area)
@@ -105,7 +104,7 @@ module _ (c : Input) (n : ℕ) (R : List Vector) where
   finished_allowed g k area = range (range_ok n R) (tells_range n R k)
     where
       gens : InRange n R → (b : Bool) → Tells b (length R ≤ 32)
-          → Allowed area (cond b (front area) (refused_by (Refused Gens) area))
+          → Allowed area (cond b (front area) (refused_by (Err Gens) area))
       gens r true t = record {
         met = met 9 (λ b. g.0) (λ b. g.1) (λ b. g.2) (λ b. r) (λ b. t.yes refl);
         count = refl;
@@ -122,8 +121,8 @@ module _ (c : Input) (n : ℕ) (R : List Vector) where
       }
 
       range : (b : Bool) → Tells b (InRange n R)
-          → Allowed area (cond b (cond (leb (length R) 32) (front area) (refused_by (Refused Gens) area))
-          (refused_by (Refused Range) area))
+          → Allowed area (cond b (cond (leb (length R) 32) (front area) (refused_by (Err Gens) area))
+          (refused_by (Err Range) area))
       range true t = gens (t.yes refl) (leb (length R) 32) (tells_leb (length R) 32)
       range false t = record {
         why = record {
@@ -138,8 +137,8 @@ module _ (c : Input) (n : ℕ) (R : List Vector) where
 -- ---- the checks of the input
 -- what the checks found: good input, or the refusal of the first demand that is not met, whatever the result
 abbrev pub Found : Input → ℕ → Checked → Type 0
-Found c n Good = GoodInput c
-Found c n (CheckedRefused e) = (R : List Vector) → Refuses (making c n R) (refusal_number e)
+Found c n (Ok tt) = GoodInput c
+Found c n (Err e) = (R : List Vector) → Refuses (making c n R) (refusal_number e)
 
 -- SHAPE is asked first, then ENTRY, then ARG
 found : (c : Input) (n : ℕ) (shape limits arg : Bool) → Tells shape c.shape → Tells limits c.limits
@@ -194,8 +193,8 @@ makes_by c n wanted area k L f exact = record {
 
     by : (k : Checked) → Found c n k
         → Outcome (making c n R) R area (given_by (make_after k n L area).made) (make_after k n L area).area
-    by Good g = unfold Allowed in finished_allowed c n R g (canonical_made n L).kind area
-    by (CheckedRefused e) w = record { why = w R; area = refl }
+    by (Ok tt) g = unfold Allowed in finished_allowed c n R g (canonical_made n L).kind area
+    by (Err e) w = record { why = w R; area = refl }
 
 -- ---- the four calls: what the checks of each find, and that its rule meets its contract
 -- intersect

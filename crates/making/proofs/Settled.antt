@@ -1,4 +1,5 @@
 -- Each contract of a making call settles the answer and the area: two outcomes that it allows are equal.
+use Rattle.std.proofs.Common.{Err, Ok}
 use mathlib.Core.List.{List, ◌++◌}
 use mathlib.Core.Path.{◌≡◌, sym, ◌∙◌, ap, subst}
 use Prim.Native.Nat.{ℕ, ◌≤◌, ◌<◌}
@@ -14,8 +15,7 @@ use Rattle.algebra.specs.Sets.{Set, set_of}
 use Rattle.algebra.specs.Wanted.{left, right, Intersected, Delayed, Reset, Hull}
 use Rattle.algebra.proofs.CanonicalLists.{unique}
 use Rattle.sets.specs.Demands.{MetBelow, Refuses, Input, Good}
-use Rattle.making.specs.declared.Made.{Made}
-use Rattle.making.specs.declared.Made.TheVariants.{Vectors, Refused}
+use Rattle.making.specs.Types.{Made}
 use Rattle.making.specs.Limits.{InRange}
 use Rattle.making.specs.Answers.{given_by, making, Outcome, Makes}
 use Rattle.making.specs.Calls.{intersect_input, Intersects, delay_input, Delays}
@@ -58,17 +58,17 @@ module _ (c : Input) (n : ℕ) where
   outcomes : (L K : List Vector) → (Good c → L ≡ K) → (area : List ℤ) (a b : Made) (after after' : List ℤ)
       → Outcome (making c n L) L area (given_by a) after → Outcome (making c n K) K area (given_by b) after'
       → (a ≡ b) × (after ≡ after')
-  outcomes L K h area (Vectors j) (Vectors k) after after' p q =
+  outcomes L K h area (Ok j) (Ok k) after after' p q =
       let e = h (good 9 L (omega arith) p.met) in (
-        ap Vectors (p.count ∙ ap (λ L. length L) e ∙ sym q.count),
+        ap Ok (p.count ∙ ap (λ L. length L) e ∙ sym q.count),
         p.area ∙ ap (λ L. words L ++ drop (length (words L)) area) e ∙ sym q.area,
       )
-  outcomes L K h area (Vectors j) (Refused f) after after' p q =
+  outcomes L K h area (Ok j) (Err f) after after' p q =
       absurd (all_met L K (refusal_number f) h p.met q.why)
-  outcomes L K h area (Refused e) (Vectors k) after after' p q =
+  outcomes L K h area (Err e) (Ok k) after after' p q =
       absurd (all_met K L (refusal_number e) (λ g. sym (h g)) q.met p.why)
-  outcomes L K h area (Refused e) (Refused f) after after' p q = (
-    ap Refused (number_inj e f (first_of L K (refusal_number e) (refusal_number f) h p.why q.why)),
+  outcomes L K h area (Err e) (Err f) after after' p q = (
+    ap Err (number_inj e f (first_of L K (refusal_number e) (refusal_number f) h p.why q.why)),
     p.area ∙ sym q.area,
   )
 

@@ -2,12 +2,12 @@
 use mathlib.Core.List.{List, map}
 use mathlib.Core.Logic.{◌≢◌}
 use mathlib.Core.Path.{◌≡◌, sym, ◌∙◌, ap}
-use Prim.Native.Nat.{ℕ, suc, ◌+◌, ◌-◌, ◌*◌, ◌/◌, ◌<◌}
+use Prim.Native.Nat.{ℕ, suc, ◌+◌, ◌*◌, ◌/◌, ◌<◌}
 use native.Mathlib.Numerals.{add-one}
 use native.Mathlib.Omega.{arith}
 use borrow.Author.Count.{below_more, below_none}
 use lib.IntN.{ℤ, pos}
-use lib.ListN.{length, get_or, set, take, drop, length-set}
+use lib.ListN.{length, get_or, set, length-set}
 use lib.Seq.{get_or-set_same, get_or-set_other}
 use Rattle.numbers.specs.Numbers.{◌⊗◌, ⨁}
 use Rattle.numbers.specs.Words.{number}
@@ -16,7 +16,7 @@ use Rattle.numbers.proofs.NumberLaws.{⨁_ext}
 use Rattle.algebra.specs.Vectors.{Vector, entry, vector, vectors}
 use Rattle.algebra.specs.Working.{side_at}
 use Rattle.sets.specs.Tests.{part}
-use Rattle.sets.proofs.RowLaws.{row_inside, part_is, part_long}
+use Rattle.sets.proofs.RowLaws.{row_inside, part_long}
 use Rattle.making.specs.Work.{Sides}
 use Rattle.making.proofs.PushLaws.{words_entry}
 use Rattle.making.proofs.BuildLaws.{row_vector}
@@ -29,12 +29,12 @@ side_words n ab v e q = ap (λ (d : ℕ). ⨁ d (λ j. entries ab j ⊗ entries 
     ∙ ⨁_ext (suc n) (λ j. entries ab j ⊗ entries v j) (λ j. entry (map number ab) j ⊗ entry (map number v) j)
     (λ j l. sym (rw (words_entry n ab e j l, words_entry n v q j l)))
 
--- at the vector that the code lends
-pub side_row : (n : ℕ) (ab l : List ℤ) (i : ℕ) → length ab ≡ suc n → i < length l / (n + 1)
-    → let v = take (i * (n + 1) + (n + 1) - i * (n + 1)) (drop (i * (n + 1)) l) in
-    side_of (length v) (entries ab) (entries v) ≡ side_at n (map number ab) (vector (vectors n l) i)
-side_row n ab l i e h =
-    ap (λ (v : List ℤ). side_of (length v) (entries ab) (entries v)) (part_is l (i * (n + 1)) (n + 1))
+-- at vector i of a list
+pub side_row : (n : ℕ) (ab l v : List ℤ) (i : ℕ) → length ab ≡ suc n → i < length l / (n + 1)
+    → v ≡ part l (i * (n + 1)) (n + 1)
+    → side_of (length v) (entries ab) (entries v) ≡ side_at n (map number ab) (vector (vectors n l) i)
+side_row n ab l v i e h q =
+    ap (λ (v : List ℤ). side_of (length v) (entries ab) (entries v)) q
     ∙ side_words n ab (part l (i * (n + 1)) (n + 1)) e
     (part_long l (i * (n + 1)) (n + 1) (row_inside i (n + 1) (length l) h) ∙ add-one n)
     ∙ ap (side_at n (map number ab)) (row_vector n l i h)

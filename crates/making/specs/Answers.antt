@@ -1,12 +1,11 @@
 -- What a call that makes a set may answer, and what stands in the lent area afterwards.
-use Rattle.std.specs.Prelude.{List, ◌++◌, ◌↔◌, ◌≡◌, ℕ, ◌≤◌, ℤ, length, drop}
+use Rattle.std.specs.Prelude.{List, ◌++◌, ◌↔◌, ◌≡◌, ℕ, ◌≤◌, ℤ, length, drop, Err, Ok}
 use Rattle.numbers.specs.Refusals.{refusal_number}
 use Rattle.algebra.specs.Vectors.{Vector, words}
 use Rattle.algebra.specs.Sets.{Set, In}
 use Rattle.algebra.specs.Canonical.{Canonical}
 use Rattle.sets.specs.Demands.{Demands, MetBelow, Refuses, Input, Good, demands}
-use Rattle.making.specs.declared.Made.{Made}
-use Rattle.making.specs.declared.Made.TheVariants.{Vectors, Refused}
+use Rattle.making.specs.Types.{Made}
 use Rattle.making.specs.Limits.{InRange}
 
 -- an answer in the rules' words: the count of vectors in the area, or the number of a refusal
@@ -16,8 +15,8 @@ pub data Given : Type 0 where
 
 -- an answer of the code in those words
 abbrev pub given_by : Made → Given
-given_by (Vectors k) = filled k
-given_by (Refused e) = refused (refusal_number e)
+given_by (Ok k) = filled k
+given_by (Err e) = refused (refusal_number e)
 
 -- the demands of a call that makes a set whose canonical list is R
 abbrev pub making : Input → ℕ → List Vector → Demands

@@ -4,7 +4,7 @@ use Rattle.algebra.specs.Sets.{set_of}
 use Rattle.algebra.specs.Wanted.{left, right, Intersected, Delayed, Reset, Hull}
 use Rattle.sets.specs.Limits.{Clocks, Whole, ListLimits}
 use Rattle.sets.specs.Demands.{Input}
-use Rattle.making.specs.declared.Made.{Made}
+use Rattle.making.specs.Types.{Made}
 use Rattle.making.specs.Limits.{Roomy, HalfLimits, ResetLimits}
 use Rattle.making.specs.Answers.{Makes}
 

@@ -6,7 +6,7 @@ use Rattle.algebra.specs.Vectors.{Vector, vector, count}
 use Rattle.algebra.specs.Working.{is_point, some_point}
 use Rattle.sorting.specs.Rows.{held}
 use Rattle.sorting.specs.Emit.{IsKind}
-use Rattle.making.specs.declared.Made.{Made}
+use Rattle.making.specs.Types.{Made}
 use Rattle.making.specs.Clean.{kept, sorted, cleaned}
 use Rattle.making.specs.Rules.{entry_ok, written, finished}
 

@@ -1,3 +1,4 @@
+pub mod Types
 pub mod Limits
 pub mod Answers
 pub mod Calls
@@ -6,3 +7,4 @@ pub mod Rules
 pub mod Work
 pub mod Change
 pub mod Finish
+pub mod Halving

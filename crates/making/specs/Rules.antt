@@ -1,5 +1,5 @@
 -- The rule by which each making call finds its answer, as executable definitions over lists of words.
-use Rattle.std.specs.Prelude.{Bool, true, false, ◌&&◌, cond, List, ◌++◌, ℕ, suc, ◌*◌, eqb, leb, ltb, ℤ, length, drop}
+use Rattle.std.specs.Prelude.{Bool, true, false, ◌&&◌, cond, List, ◌++◌, ℕ, suc, ◌*◌, eqb, leb, ltb, ℤ, length, drop, Err, Ok}
 use Rattle.numbers.specs.Numbers.{Num, −∞, fin, at_most, million, minus_million}
 use Rattle.numbers.specs.Words.{number}
 use Rattle.numbers.specs.Tests.{every}
@@ -7,12 +7,10 @@ use Rattle.numbers.specs.declared.Refusal.TheVariants.{Arg, Range, Gens}
 use Rattle.algebra.specs.Vectors.{Vector, entry, vector, vectors, words}
 use Rattle.algebra.specs.Wanted.{left, right}
 use Rattle.algebra.specs.Working.{is_point, intersect_list, delay_list, reset_list, hull_list}
-use Rattle.sets.specs.declared.Checked.{Checked}
-use Rattle.sets.specs.declared.Checked.TheVariants.{Good, Refused as CheckedRefused}
+use Rattle.sets.specs.Types.{Checked}
 use Rattle.sets.specs.Tests.{tight, words_ok, clocks_ok, whole_ok, list_ok}
 use Rattle.sets.specs.Rules.{checked}
-use Rattle.making.specs.declared.Made.{Made}
-use Rattle.making.specs.declared.Made.TheVariants.{Vectors, Refused}
+use Rattle.making.specs.Types.{Made}
 use Rattle.making.specs.Clean.{canonical_of}
 
 -- ---- limits of a result
@@ -40,17 +38,17 @@ refused_by answer area = record { made = answer; area = area }
 abbrev pub written : List Vector → List ℤ → Result
 written R area =
     cond (leb (length R) 32)
-    (record { made = Vectors (length R); area = words R ++ drop (length (words R)) area })
-    (refused_by (Refused Gens) area)
+    (record { made = Ok (length R); area = words R ++ drop (length (words R)) area })
+    (refused_by (Err Gens) area)
 
 -- the list R in the area, or RANGE, or GENS
 unfoldable pub finished : ℕ → List Vector → List ℤ → Result
-finished n R area = cond (range_ok n R) (written R area) (refused_by (Refused Range) area)
+finished n R area = cond (range_ok n R) (written R area) (refused_by (Err Range) area)
 
 -- after the checks of the input: the canonical list of the vectors L, or the refusal
 abbrev pub make_after : Checked → ℕ → List Vector → List ℤ → Result
-make_after Good n L area = finished n (canonical_of n L) area
-make_after (CheckedRefused e) n L area = refused_by (Refused e) area
+make_after (Ok u) n L area = finished n (canonical_of n L) area
+make_after (Err e) n L area = refused_by (Err e) area
 
 -- the shape of a list and an area
 unfoldable pub shape_ok : ℕ → List ℤ → List ℤ → Bool
@@ -79,9 +77,9 @@ delay_of n l area = make_after (delay_checked n l area) n (delay_list n (vectors
 -- ---- reset
 -- ARG is asked last
 abbrev pub arg_checked : Checked → Bool → Checked
-arg_checked (CheckedRefused e) arg = CheckedRefused e
-arg_checked Good true = Good
-arg_checked Good false = CheckedRefused Arg
+arg_checked (Err e) arg = Err e
+arg_checked (Ok u) true = Ok tt
+arg_checked (Ok u) false = Err Arg
 
 -- its checks, in order
 unfoldable pub reset_checked : ℕ → List ℤ → ℕ → ℤ → List ℤ → Checked

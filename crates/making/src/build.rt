@@ -1,77 +1,71 @@
 // The vectors that stand before cleaning, for each call.
-ghost use Rattle.std.specs.Prelude.{[], ◌∷◌, map};
+ghost use Rattle.std.specs.Prelude.{map};
 ghost use Rattle.numbers.specs.Words.{number};
 ghost use Rattle.algebra.specs.Vectors.{vectors};
-ghost use Rattle.making.specs.Change.{changed_by, Changeable, Changes, RoomFor, Growable};
-ghost use Rattle.algebra.specs.Working.{with_point};
-ghost use Rattle.making.specs.Work.{Added, Grown};
-ghost use Rattle.making.specs.declared.build.Change.TheVariants.{Stay};
+ghost use Rattle.algebra.specs.Working.{to_ray, reset_vector, with_point};
+ghost use Rattle.making.specs.Limits.{ResetLimits};
+ghost use Rattle.making.specs.Change.{Changeable, Changes, Growable};
+ghost use Rattle.making.specs.Work.{Grown};
 
-use crate::work;
+use crate::work::Work;
 use numbers::{Vector, product};
 use sets::entries;
 
-// What becomes of each vector of a list: it stays, it becomes a ray, or its clock is replaced.
-#[derive(Clone, Copy)]
-pub enum Change {
-    Stay,
-    Ray,
-    Replace(usize, i32),
+// Each vector of the list put behind the others.
+pub fn each(work: &mut Work, list: &[i32], n: usize)
+    requires { Growable n list.now work.old.words work.old.count }
+    ensures { Grown n work.old.words work.old.count (vectors n list.now) work.new.count
+        work.new.words }
+{
+    for vector in list.chunks_exact(n + 1) {
+        work.push(vector, n);
+    }
 }
 
-// The vector, changed: a point's clock gets the value, a ray's −∞.
-fn changed(vector: &[i32], n: usize, change: Change) -> Vector
-    requires { Changeable n change vector.now }
-    ensures { Changes n change vector.now result.words }
+// Each vector of the list, made a ray, put behind the others.
+pub fn rays(work: &mut Work, list: &[i32], n: usize)
+    requires { Growable n list.now work.old.words work.old.count }
+    ensures { Grown n work.old.words work.old.count (map (to_ray n) (vectors n list.now))
+        work.new.count work.new.words }
+{
+    for vector in list.chunks_exact(n + 1) {
+        let ray = Vector::ray(&vector[..n]);
+        work.push(&ray.words[..n + 1], n);
+    }
+}
+
+// The vector with its clock replaced: a point's clock gets the value, a ray's −∞.
+fn replaced(vector: &[i32], n: usize, clock: usize, value: i32) -> Vector
+    requires changeable { Changeable n vector.now }
+    requires limits { ResetLimits n clock value }
+    ensures { Changes n (reset_vector n clock value (map number vector.now)) result.words }
 {
     let mut words = [0; 7];
-    sorting::copy(&mut words, 0, vector, 0, n + 1);
-    match change {
-        Change::Stay => Vector { words },
-        Change::Ray => Vector::ray(&vector[..n]),
-        Change::Replace(clock, value) => {
-            words[clock] = product(value, vector[n]);
-            Vector { words }
-        }
+    words[..n + 1].copy_from_slice(vector);
+    words[clock] = product(value, vector[n]);
+    Vector { words }
+}
+
+// Each vector of the list, its clock replaced, put behind the others.
+pub fn replace(work: &mut Work, list: &[i32], n: usize, clock: usize, value: i32)
+    requires growable { Growable n list.now work.old.words work.old.count }
+    requires limits { ResetLimits n clock value }
+    ensures { Grown n work.old.words work.old.count
+        (map (reset_vector n clock value) (vectors n list.now)) work.new.count work.new.words }
+{
+    for vector in list.chunks_exact(n + 1) {
+        let made = replaced(vector, n, clock, value);
+        work.push(&made.words[..n + 1], n);
     }
 }
 
-// One vector, changed, put behind the first k.
-fn one(work: &mut [i32], k: usize, vector: &[i32], n: usize, change: Change)
-    requires { Changeable n change vector.now × RoomFor n work.old k }
-    ensures { Added n work.old k (changed_by change n (map number vector.now) ∷ [])
-        work.new }
+// The vectors of the list, if it has a point, put behind the others.
+pub fn pointed(work: &mut Work, list: &[i32], n: usize)
+    requires { Growable n list.now work.old.words work.old.count }
+    ensures { Grown n work.old.words work.old.count (with_point n (vectors n list.now))
+        work.new.count work.new.words }
 {
-    let made = changed(vector, n, change);
-    let words = made.words;
-    work::push(work, k, &words[..n + 1], n);
-}
-
-// Each vector of the list, changed, put behind the first k.
-pub fn each(work: &mut [i32], k: usize, list: &[i32], n: usize, change: Change)
-    requires { Growable n change list.now work.old k }
-    ensures { Added n work.old k (map (changed_by change n) (vectors n list.now))
-        work.new }
-{
-    let w = n + 1;
-    let m = list.len() / w;
-    let mut i = 0;
-    while i < m {
-        let at = i * w;
-        one(work, k + i, &list[at..at + w], n, change);
-        i += 1;
+    if entries::has_point(n, list) {
+        each(work, list, n);
     }
-}
-
-// The vectors of the list, if it has a point, put behind the first k.
-pub fn pointed(work: &mut [i32], k: usize, list: &[i32], n: usize) -> usize
-    requires { Growable n Stay list.now work.old k }
-    ensures { Grown n work.old k (with_point n (vectors n list.now)) result
-        work.new }
-{
-    if !entries::has_point(n, list) {
-        return k;
-    }
-    each(work, k, list, n, Change::Stay);
-    k + list.len() / (n + 1)
 }

@@ -5,7 +5,7 @@ ghost use Rattle.sets.specs.Rules.{flat};
 ghost use Rattle.making.specs.Clean.{try_one, clean_flags};
 ghost use Rattle.making.specs.Finish.{Cleanable};
 
-use sets::{Short, against};
+use sets::against;
 
 // Vector i is dropped if the others that are on generate it.
 fn try_one(alive: &mut [bool], work: &[i32], n: usize, i: usize)
@@ -19,10 +19,9 @@ fn try_one(alive: &mut [bool], work: &[i32], n: usize, i: usize)
     let m = alive.len();
     let was = alive[i];
     alive[i] = false;
-    let Short::Nowhere = against::short(work, m, alive, &work[at..at + w]) else {
+    if against::short(work, m, alive, &work[at..at + w]).is_some() {
         alive[i] = was;
-        return;
-    };
+    }
 }
 
 // The flags after each vector was tried.
@@ -31,9 +30,7 @@ pub fn clean(alive: &mut [bool], work: &[i32], n: usize)
     ensures { alive.new
         ≡ clean_flags (suc n) (length alive.old) (flat (suc n) work.now) }
 {
-    let mut i = 0;
-    while i < alive.len() {
+    for i in 0..alive.len() {
         try_one(alive, work, n, i);
-        i += 1;
     }
 }

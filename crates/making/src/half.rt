@@ -1,14 +1,16 @@
 // The vectors that a half-space makes: satisfying ones stay, and each gives one more with every violating one.
-ghost use Rattle.std.specs.Prelude.{[], ◌∷◌, map, ◌<◌};
+ghost use Rattle.std.specs.Prelude.{◌≡◌, ◌+◌, ◌*◌, [], ◌∷◌, map, ◌<◌};
 ghost use Rattle.numbers.specs.Words.{number};
 ghost use Rattle.algebra.specs.Vectors.{vectors, count};
-ghost use Rattle.making.specs.Work.{Added, Grown, Sided, Sides, Halved, RoomOf, Mixable};
+ghost use Rattle.sets.specs.Tests.{part};
+ghost use Rattle.making.specs.Work.{Grown, Sided, Sides, Halved, RoomOf, Mixable};
 ghost use Rattle.making.specs.Work.{mixed_of, cross_at, crossings_at, crosses_at, crossed_list};
 ghost use Rattle.algebra.specs.Wanted.{left, right};
 ghost use Rattle.algebra.specs.Working.{intersect_list};
 ghost use Rattle.making.specs.Finish.{Cuttable};
+ghost use Rattle.making.specs.Halving.{halving};
 
-use crate::work;
+use crate::work::Work;
 use numbers::{mix, side};
 
 // The sides of a half-space at the vectors of the list.
@@ -16,135 +18,129 @@ fn sides(out: &mut [i32], list: &[i32], ab: &[i32], n: usize)
     requires { Sided n list.now ab.now out.old }
     ensures { Sides n (map number ab.now) (vectors n list.now) out.new }
 {
-    let w = n + 1;
-    let m = list.len() / w;
-    let mut i = 0;
-    while i < m {
-        let at = i * w;
-        out[i] = side(ab, &list[at..at + w]);
-        i += 1;
+    // by index: a zip with `iter_mut` tells a proof nothing of what it wrote
+    for (i, vector) in list.chunks_exact(n + 1).enumerate() {
+        out[i] = side(ab, vector);
     }
 }
 
-// The larger of two weighted vectors put behind the first k.
-fn mixed(work: &mut [i32], k: usize, g: &[i32], l: i32, h: &[i32], r: i32, n: usize)
-    requires { Mixable n work.old k g.now l h.now r }
-    ensures { Added n work.old k
+// The larger of two weighted vectors put behind the others.
+fn mixed(work: &mut Work, g: &[i32], l: i32, h: &[i32], r: i32, n: usize)
+    requires { Mixable n work.old.words work.old.count g.now l h.now r }
+    ensures { Grown n work.old.words work.old.count
         (mixed_of n (number l) (map number g.now) (number r) (map number h.now) ∷ [])
-        work.new }
+        work.new.count work.new.words }
 {
     let w = n + 1;
     let mut row = [0; 7];
-    sorting::copy(&mut row, 0, g, 0, w);
+    row[..w].copy_from_slice(g);
     mix(&mut row[..w], l, h, r);
-    work::push(work, k, &row[..w], n);
+    work.push(&row[..w], n);
 }
 
-// What vector i gives with vector j, if that violates, put behind the first k.
-fn cross(
-    work: &mut [i32],
-    k: usize,
-    list: &[i32],
+// A list, and the words of both sides of a half-space at its vectors.
+#[derive(Clone, Copy)]
+struct Halves<'a> {
+    list: &'a [i32],
     n: usize,
-    i: usize,
-    j: usize,
-    ls: &[i32],
-    rs: &[i32],
-) -> usize
-    requires halved { Halved n list.now ls.now rs.now × (i < count n list.now) × (j < count n list.now) }
-    requires room_of { RoomOf n work.old k (cross_at n ls.now rs.now (vectors n list.now) i j) }
-    ensures { Grown n work.old k
-        (cross_at n ls.now rs.now (vectors n list.now) i j) result work.new }
-{
-    let w = n + 1;
-    let l = ls[j];
-    if rs[j] < l {
-        let a = i * w;
-        let b = j * w;
-        let r = rs[i];
-        mixed(work, k, &list[a..a + w], l, &list[b..b + w], r, n);
-        return k + 1;
-    }
-    k
+    ls: &'a [i32],
+    rs: &'a [i32],
+    ghost halved: { Halved n list.now ls.now rs.now } by { Prim.hlevel halving },
 }
 
-// What vector i gives with each vector that violates, put behind the first k.
-fn cross_all(
-    work: &mut [i32],
-    k: usize,
-    list: &[i32],
-    n: usize,
-    i: usize,
-    ls: &[i32],
-    rs: &[i32],
-) -> usize
-    requires halved { Halved n list.now ls.now rs.now × (i < count n list.now) }
-    requires room_of { RoomOf n work.old k (crossings_at n ls.now rs.now (vectors n list.now) i) }
-    ensures { Grown n work.old k
-        (crossings_at n ls.now rs.now (vectors n list.now) i) result work.new }
-{
-    let m = list.len() / (n + 1);
-    let mut c = k;
-    let mut j = 0;
-    while j < m {
-        c = cross(work, c, list, n, i, j, ls, rs);
-        j += 1;
+impl Halves<'_> {
+    // How many vectors the list has.
+    fn count(&self) -> usize
+        ensures { result ≡ count self.now.n self.now.list.now }
+    {
+        self.list.len() / (self.n + 1)
     }
-    c
+
+    // Vector i of the list.
+    fn vector(&self, i: usize) -> &[i32]
+        requires { i < count self.now.n self.now.list.now }
+        ensures { result.now ≡ part self.now.list.now (i * (self.now.n + 1)) (self.now.n + 1) }
+    {
+        let w = self.n + 1;
+        &self.list[i * w..i * w + w]
+    }
+
+    // What vector i gives with vector j, if that violates, put behind the others.
+    fn cross(&self, work: &mut Work, i: usize, j: usize)
+        requires inside { (i < count self.now.n self.now.list.now) × (j < count self.now.n self.now.list.now) }
+        requires room_of { RoomOf self.now.n work.old.words work.old.count
+            (cross_at self.now.n self.now.ls.now self.now.rs.now (vectors self.now.n self.now.list.now) i j) }
+        ensures { Grown self.now.n work.old.words work.old.count
+            (cross_at self.now.n self.now.ls.now self.now.rs.now (vectors self.now.n self.now.list.now) i j)
+            work.new.count work.new.words }
+    {
+        let l = self.ls[j];
+        if self.rs[j] < l {
+            mixed(work, self.vector(i), l, self.vector(j), self.rs[i], self.n);
+        }
+    }
+
+    // What vector i gives with each vector that violates, put behind the others.
+    fn cross_all(&self, work: &mut Work, i: usize)
+        requires inside { i < count self.now.n self.now.list.now }
+        requires room_of { RoomOf self.now.n work.old.words work.old.count
+            (crossings_at self.now.n self.now.ls.now self.now.rs.now (vectors self.now.n self.now.list.now) i) }
+        ensures { Grown self.now.n work.old.words work.old.count
+            (crossings_at self.now.n self.now.ls.now self.now.rs.now (vectors self.now.n self.now.list.now) i)
+            work.new.count work.new.words }
+    {
+        for j in 0..self.count() {
+            self.cross(work, i, j);
+        }
+    }
+
+    // What vector i gives, if it satisfies, put behind the others.
+    fn keep(&self, work: &mut Work, i: usize)
+        requires inside { i < count self.now.n self.now.list.now }
+        requires room_of { RoomOf self.now.n work.old.words work.old.count
+            (crosses_at self.now.n self.now.ls.now self.now.rs.now (vectors self.now.n self.now.list.now) i) }
+        ensures { Grown self.now.n work.old.words work.old.count
+            (crosses_at self.now.n self.now.ls.now self.now.rs.now (vectors self.now.n self.now.list.now) i)
+            work.new.count work.new.words }
+    {
+        if self.ls[i] <= self.rs[i] {
+            work.push(self.vector(i), self.n);
+            self.cross_all(work, i);
+        }
+    }
+
+    // What each vector gives, put behind the others.
+    fn keep_all(&self, work: &mut Work)
+        requires room_of { RoomOf self.now.n work.old.words work.old.count
+            (crossed_list self.now.n self.now.ls.now self.now.rs.now (vectors self.now.n self.now.list.now)) }
+        ensures { Grown self.now.n work.old.words work.old.count
+            (crossed_list self.now.n self.now.ls.now self.now.rs.now (vectors self.now.n self.now.list.now))
+            work.new.count work.new.words }
+    {
+        for i in 0..self.count() {
+            self.keep(work, i);
+        }
+    }
 }
 
-// What vector i gives, if it satisfies, put behind the first k.
-fn keep(
-    work: &mut [i32],
-    k: usize,
-    list: &[i32],
-    n: usize,
-    i: usize,
-    ls: &[i32],
-    rs: &[i32],
-) -> usize
-    requires halved { Halved n list.now ls.now rs.now × (i < count n list.now) }
-    requires room_of { RoomOf n work.old k (crosses_at n ls.now rs.now (vectors n list.now) i) }
-    ensures { Grown n work.old k
-        (crosses_at n ls.now rs.now (vectors n list.now) i) result work.new }
-{
-    if rs[i] < ls[i] {
-        return k;
-    }
-    let w = n + 1;
-    let at = i * w;
-    work::push(work, k, &list[at..at + w], n);
-    cross_all(work, k + 1, list, n, i, ls, rs)
-}
-
-// What each vector gives, put to the front.
-fn keep_all(work: &mut [i32], list: &[i32], n: usize, ls: &[i32], rs: &[i32]) -> usize
-    requires halved { Halved n list.now ls.now rs.now }
-    requires room_of { RoomOf n work.old 0 (crossed_list n ls.now rs.now (vectors n list.now)) }
-    ensures { Grown n work.old 0
-        (crossed_list n ls.now rs.now (vectors n list.now)) result work.new }
-{
-    let m = list.len() / (n + 1);
-    let mut c = 0;
-    let mut i = 0;
-    while i < m {
-        c = keep(work, c, list, n, i, ls, rs);
-        i += 1;
-    }
-    c
-}
-
-// The vectors that a half-space makes, put to the front, and how many they are.
-pub fn cut(work: &mut [i32], list: &[i32], half: &[i32], n: usize) -> usize
-    requires { Cuttable n list.now half.now work.old }
-    ensures { Grown n work.old 0
-        (intersect_list n (left n half.now) (right n half.now) (vectors n list.now)) result
-        work.new }
+// The vectors that a half-space makes, put into working memory that has none.
+pub fn cut(work: &mut Work, list: &[i32], half: &[i32], n: usize)
+    requires cuttable { Cuttable n list.now half.now work.old.words }
+    requires empty { work.old.count ≡ 0 }
+    ensures { Grown n work.old.words 0
+        (intersect_list n (left n half.now) (right n half.now) (vectors n list.now))
+        work.new.count work.new.words }
 {
     let w = n + 1;
     let mut ls = [0; 32];
     let mut rs = [0; 32];
     sides(&mut ls, list, &half[..w], n);
     sides(&mut rs, list, &half[w..w + w], n);
-    keep_all(work, list, n, &ls, &rs)
+    let halves = Halves {
+        list,
+        n,
+        ls: &ls,
+        rs: &rs,
+    };
+    halves.keep_all(work);
 }

@@ -3,11 +3,9 @@
 
 ghost use Rattle.making.specs.Calls.{Intersects, Delays, Resets, Hulls};
 
-use build::Change;
 use finish::finish;
 use numbers::Refusal;
-use sets::Checked;
-use sets::input::why;
+use work::Work;
 
 mod input; // input.rt: whether the input of a call is good
 mod work; // work.rt: vectors put into working memory
@@ -17,65 +15,50 @@ mod clean; // clean.rt: vectors that others generate are dropped
 mod range; // range.rt: the limits of a result
 mod finish; // finish.rt: the result written to the lent area
 
-// The answer of a call that makes a set: how many vectors stand in the area.
-#[derive(Clone, Copy)]
-pub enum Made {
-    Vectors(usize),
-    Refused(Refusal),
-}
-
 // The vectors of the list's set that satisfy the half-space.
-pub fn intersect(n: usize, list: &[i32], half: &[i32], out: &mut [i32]) -> Made
+pub fn intersect(n: usize, list: &[i32], half: &[i32], out: &mut [i32]) -> Result<usize, Refusal>
     ensures { Intersects n list.now half.now out.old result out.new }
 {
-    let checked = input::intersect(n, list, half, out);
-    let Checked::Good = checked else {
-        return Made::Refused(why(checked));
-    };
-    let mut work = [0; 1904];
-    let k = half::cut(&mut work, list, half, n);
-    finish(out, &work, k, n)
+    input::intersect(n, list, half, out)?;
+    let mut work = Work::new();
+    half::cut(&mut work, list, half, n);
+    finish(out, &work, n)
 }
 
 // All vectors of the list's set, later by whole ticks.
-pub fn delay(n: usize, list: &[i32], out: &mut [i32]) -> Made
+pub fn delay(n: usize, list: &[i32], out: &mut [i32]) -> Result<usize, Refusal>
     ensures { Delays n list.now out.old result out.new }
 {
-    let checked = input::delay(n, list, out);
-    let Checked::Good = checked else {
-        return Made::Refused(why(checked));
-    };
-    let mut work = [0; 1904];
-    let m = list.len() / (n + 1);
-    build::each(&mut work, 0, list, n, Change::Stay);
-    build::each(&mut work, m, list, n, Change::Ray);
-    finish(out, &work, m + m, n)
+    input::delay(n, list, out)?;
+    let mut work = Work::new();
+    build::each(&mut work, list, n);
+    build::rays(&mut work, list, n);
+    finish(out, &work, n)
 }
 
 // All vectors of the list's set, with one clock replaced.
-pub fn reset(n: usize, list: &[i32], clock: usize, value: i32, out: &mut [i32]) -> Made
+pub fn reset(
+    n: usize,
+    list: &[i32],
+    clock: usize,
+    value: i32,
+    out: &mut [i32],
+) -> Result<usize, Refusal>
     ensures { Resets n list.now clock value out.old result out.new }
 {
-    let checked = input::reset(n, list, clock, value, out);
-    let Checked::Good = checked else {
-        return Made::Refused(why(checked));
-    };
-    let mut work = [0; 1904];
-    let m = list.len() / (n + 1);
-    build::each(&mut work, 0, list, n, Change::Replace(clock, value));
-    finish(out, &work, m, n)
+    input::reset(n, list, clock, value, out)?;
+    let mut work = Work::new();
+    build::replace(&mut work, list, n, clock, value);
+    finish(out, &work, n)
 }
 
 // The smallest max-plus polyhedron that holds both lists' sets.
-pub fn hull(n: usize, first: &[i32], second: &[i32], out: &mut [i32]) -> Made
+pub fn hull(n: usize, first: &[i32], second: &[i32], out: &mut [i32]) -> Result<usize, Refusal>
     ensures { Hulls n first.now second.now out.old result out.new }
 {
-    let checked = input::hull(n, first, second, out);
-    let Checked::Good = checked else {
-        return Made::Refused(why(checked));
-    };
-    let mut work = [0; 1904];
-    let m = build::pointed(&mut work, 0, first, n);
-    let k = build::pointed(&mut work, m, second, n);
-    finish(out, &work, k, n)
+    input::hull(n, first, second, out)?;
+    let mut work = Work::new();
+    build::pointed(&mut work, first, n);
+    build::pointed(&mut work, second, n);
+    finish(out, &work, n)
 }

@@ -13,12 +13,10 @@ fn entry_fits(x: i32, point: bool) -> bool
     ensures { result ≡ entry_ok point (number x) }
 {
     if point {
-        return x <= Vector::MOST;
+        x <= Vector::MOST
+    } else {
+        x == Vector::MARK || Vector::LEAST_RAY <= x
     }
-    if x == Vector::MARK {
-        return true;
-    }
-    Vector::LEAST_RAY <= x
 }
 
 // Whether each clock of a vector is.
@@ -26,15 +24,8 @@ fn row_fits(vector: &[i32], n: usize) -> bool
     requires { n < length vector.now }
     ensures { result ≡ row_ok n (entries vector.now) }
 {
-    let last = vector[n];
-    let mut j = 0;
-    while j < n {
-        if !entry_fits(vector[j], last != Vector::MARK) {
-            return false;
-        }
-        j += 1;
-    }
-    true
+    let point = vector[n] != Vector::MARK;
+    vector[..n].iter().all(|x| entry_fits(*x, point))
 }
 
 // Whether each vector that is on is.
@@ -42,16 +33,10 @@ pub fn fits(work: &[i32], n: usize, alive: &[bool]) -> bool
     requires { (n ≤ 6) × (length alive.now * suc n ≤ length work.now) }
     ensures { result ≡ alive_ok n alive.now (flat (suc n) work.now) }
 {
-    let w = n + 1;
-    let mut i = 0;
-    while i < alive.len() {
-        if alive[i] {
-            let at = i * w;
-            if !row_fits(&work[at..at + w], n) {
-                return false;
-            }
+    for (on, vector) in alive.iter().zip(work.chunks_exact(n + 1)) {
+        if *on && !row_fits(vector, n) {
+            return false;
         }
-        i += 1;
     }
     true
 }

@@ -1,5 +1,5 @@
 // Vectors put one behind the other into working memory, each shifted as a canonical list wants it.
-ghost use Rattle.std.specs.Prelude.{◌≡◌, suc, ◌≤◌, length};
+ghost use Rattle.std.specs.Prelude.{◌≡◌, suc, ◌+◌, ◌≤◌, pos, length, replicate};
 ghost use Rattle.numbers.specs.Numbers.{fin, Within};
 ghost use Rattle.numbers.specs.Places.{Each};
 ghost use Rattle.making.specs.Work.{shift_of, Shifted, Pushable, Pushed};
@@ -17,10 +17,7 @@ fn shift(vector: &[i32], n: usize) -> i32
     }
     let zeros = [0; 7];
     let most = side(&zeros[..n + 1], vector);
-    if most == Vector::MARK {
-        return 0;
-    }
-    0 - most
+    if most == Vector::MARK { 0 } else { 0 - most }
 }
 
 // The words of the vector, shifted by `by`.
@@ -29,20 +26,41 @@ fn place(out: &mut [i32], vector: &[i32], by: i32)
         × Within 1000000000 (fin by) }
     ensures { Shifted vector.now by out.new }
 {
-    let mut j = 0;
-    while j < out.len() {
-        out[j] = product(by, vector[j]);
-        j += 1;
+    // by index: a zip with `iter_mut` tells a proof nothing of what it wrote
+    for (j, word) in out.iter_mut().enumerate() {
+        *word = product(by, vector[j]);
     }
 }
 
-// The vector put behind the first k.
-pub fn push(work: &mut [i32], k: usize, vector: &[i32], n: usize)
-    requires { Pushable n work.old k vector.now }
-    ensures { Pushed n work.old k vector.now work.new }
-{
-    let w = n + 1;
-    let by = shift(vector, n);
-    let at = k * w;
-    place(&mut work[at..at + w], vector, by);
+// Working memory: vectors of n + 1 words one behind the other, and how many they are.
+#[derive(Drop)]
+pub struct Work {
+    pub words: [i32; 1904],
+    pub count: usize,
+}
+
+impl Work {
+    // No vector yet.
+    pub fn new() -> Work
+        ensures words { result.words ≡ replicate 1904 (pos 0) }
+        ensures count { result.count ≡ 0 }
+    {
+        Work {
+            words: [0; 1904],
+            count: 0,
+        }
+    }
+
+    // The vector put behind the others.
+    pub fn push(&mut self, vector: &[i32], n: usize)
+        requires { Pushable n self.old.words self.old.count vector.now }
+        ensures pushed { Pushed n self.old.words self.old.count vector.now self.new.words }
+        ensures count { self.new.count ≡ self.old.count + 1 }
+    {
+        let w = n + 1;
+        let at = self.count * w;
+        let by = shift(vector, n);
+        place(&mut self.words[at..at + w], vector, by);
+        self.count += 1;
+    }
 }

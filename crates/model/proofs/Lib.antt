@@ -1,12 +1,11 @@
-pub mod HeadLaws
 pub mod ModelTrip
 pub mod WholeTrip
 pub mod ModelSize
-pub mod BlankLaws
-pub mod ReadLaws
+pub mod EqualLaws
 pub mod StoreLaws
 pub mod Theorems
 pub mod PlainLimits
 pub mod PlainBytes
 pub mod PlaceLaws
 pub mod SurveyLaws
+pub mod ReadLaws

@@ -1,23 +1,13 @@
 -- Lists and edges read where they stand.
 use mathlib.Core.List.{List, [], ◌∷◌, ◌++◌, map}
-use mathlib.Core.Path.{◌≡◌, refl, sym, ap, ◌∙◌}
+use mathlib.Core.Path.{◌≡◌, refl, sym}
 use Prim.Native.Nat.{ℕ, zero, suc, ◌<◌}
 use native.Mathlib.Omega.{arith}
 use lib.ListN.{length, get_or, take}
-use Rattle.codec.specs.Number.{Got}
-use Rattle.codec.specs.Answers.{Reads}
-use Rattle.codec.specs.declared.Step.{Step}
-use Rattle.codec.specs.declared.Step.TheVariants.{At, Refused as Stopped}
 use Rattle.bounds.specs.Bounds.{no_bounds}
 use Rattle.model.specs.declared.Outline.{Outline}
 use Rattle.model.specs.Models.{no_edge, past_bounds, past_edge}
-use Rattle.model.specs.Outlines.{value_or, list_at, edge_at, standing, model_by, Outlines}
-
--- what stands beside a step is the value that was read, or the blank one
-pub read_value : {A : Type 0} {s : List ℕ} {blank : A} {g : Got A} {a : A} (step : Step) → Reads s blank g step a
-    → a ≡ value_or blank g
-read_value {blank = blank} (At next) r = ap (value_or blank) r.said
-read_value {blank = blank} (Stopped e) r = r.beside e refl ∙ ap (value_or blank) r.said
+use Rattle.model.specs.Outlines.{list_at, edge_at, standing, model_by, Outlines}
 
 -- what stands at place i of those that are used
 stands : {A : Type 0} (f : ℕ → A) (past : A) (count : ℕ) (places : List ℕ) (tail : List A) (i : ℕ) → i < count

@@ -1,15 +1,16 @@
 -- A model's bytes at the start of an area.
 use mathlib.Core.List.{List, ◌++◌}
-use mathlib.Core.Path.{◌≡◌, sym, ap, ◌∙◌}
+use mathlib.Core.Path.{◌≡◌, ◌∙◌}
 use Prim.Native.Nat.{ℕ, ◌≤◌}
 use native.Mathlib.Omega.{arith}
 use lib.ListN.{length, take, drop, replicate, length-replicate}
 use Rattle.codec.specs.Answers.{Writes, Room}
-use Rattle.codec.proofs.WriteLaws.{kept_long, put_start, stored_first}
+use Rattle.codec.proofs.WriteLaws.{put_start, stored_first, stores}
 use Rattle.model.specs.declared.Model.{Model}
 use Rattle.model.specs.Limits.{ModelLimits}
 use Rattle.model.specs.Written.{model_bytes}
 use Rattle.model.proofs.ModelSize.{size}
+use Rattle.model.proofs.ModelTrip.{few_sets}
 
 -- an area of 33,664 bytes has room for any model
 pub room : (m : Model) → ModelLimits m → (area : List ℕ) → 33664 ≤ length area → Room 0 (model_bytes m) area
@@ -36,10 +37,5 @@ module _ (m : Model) {area after : List ℕ} {end : ℕ} (r : Room 0 (model_byte
   pub part : take end after ≡ model_bytes m
   part = stored_first long v
 
-  -- it lies in the area
-  pub prefix : end ≤ length after
-  prefix = omega (arith, count, kept_long v, long)
-
-  -- and is as long as was counted
-  pub taken : end ≡ length (take end after)
-  taken = count ∙ sym (ap length part)
+-- an edge, whose reset set is a small number
+pub ruleset edge_stores = (stores, few_sets)

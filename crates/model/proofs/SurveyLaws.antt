@@ -1,195 +1,98 @@
--- Places stored one by one, and the array of what stands there.
+-- Places stored one by one, and what stands there.
 use mathlib.Core.List.{List, [], ◌∷◌, ◌++◌, map, map-append}
 use mathlib.Core.Path.{◌≡◌, refl, sym, ap, ◌∙◌, subst}
-use Prim.Native.Nat.{ℕ, suc, ◌+◌, ◌-◌, ◌≤◌, ◌<◌}
-use native.Mathlib.Nat.{sub-zero}
+use Prim.Native.Nat.{ℕ, ◌+◌, ◌-◌, ◌≤◌, ◌<◌}
 use native.Mathlib.Numerals.{add-one}
-use native.Mathlib.Decide.{ℕ_discrete}
 use native.Mathlib.Omega.{arith}
-use lib.ListN.{length, get_or, set, take, drop, replicate, length-set, length-map, length-replicate}
-use lib.Seq.{take-suc-set, length-take-le, get_or-set_same, get_or-set_other}
-use Rattle.numbers.specs.Refusals.{refusal_number}
-use Rattle.numbers.specs.declared.Refusal.{Refusal}
-use Rattle.codec.specs.declared.Step.{Step}
-use Rattle.codec.specs.declared.Step.TheVariants.{At, Refused as Stopped}
-use Rattle.codec.specs.Number.{got, refused}
-use Rattle.codec.specs.Form.{Form, read_in, array}
-use Rattle.codec.proofs.ArrayLaws.{Filling, fill_start, fill_step, fill_stop, fill_done}
-use Rattle.codec.proofs.FormLaws.{Finds, refusing, giving}
-use Rattle.codec.specs.Answers.{Refuses, step_said}
-use Rattle.bounds.specs.Bounds.{no_bounds, bounds_form}
+use lib.ListN.{length, set, take, length-map, length-set}
+use lib.Seq.{take-suc-set, take_all}
+use Rattle.std.proofs.lemmas.List.{map-set}
+use Rattle.codec.specs.Number.{got}
+use Rattle.codec.specs.Form.{Form, read_in, many}
+use Rattle.codec.specs.Answers.{Ends}
+use Rattle.codec.proofs.ArrayLaws.{Passing, pass_start, pass_step, many_long}
+use Rattle.codec.proofs.FormEnds.{ends_then, left_ends}
 use Rattle.model.specs.declared.Edge.{Edge}
-use Rattle.model.specs.declared.reader.Goal.{Goal}
-use Rattle.model.specs.Models.{no_edge, no_goal, edge_form, goal_form}
-use Rattle.model.specs.Outlines.{value_or, item_at, edge_at, standing}
-use Rattle.model.specs.Surveys.{Places, Sources, EdgesPlaced, ReadsGoal}
-use Rattle.model.proofs.ReadLaws.{stopped}
+use Rattle.model.specs.Models.{no_edge, edge_form}
+use Rattle.model.specs.Outlines.{value_or, item_at, edge_at}
 
-module _ {A : Type 0} (blank : A) where
-  -- the first blank item replaced
-  fill : (xs : List A) (k : ℕ) (v : A) → set (xs ++ replicate (suc k) blank) (length xs) v ≡ (xs ++ (v ∷ [])) ++
-      replicate k blank
-  fill [] k v = refl
-  fill (x ∷ xs) k v = ap (◌∷◌ x) (fill xs k v)
+-- the first i of `count` items stand in s at the first i places, and `rest`, the end of s, is left to read
+pub record Placing {A : Type 0} (F : Form A) (blank : A) (s start : List ℕ) (count : ℕ) (places : List ℕ) (i : ℕ)
+    (rest : List ℕ) : Type 0 where
+  pub pass : Passing F start count (map (item_at F blank s) places) i rest
+  pub ends : Ends s rest
 
-  module _ (f : ℕ → A) (size : ℕ) where
-    long_at : (i : ℕ) (places : List ℕ) → i ≤ length places → length (map f (take i places)) ≡ i
-    long_at i places h = length-map (take i places) f ∙ length-take-le i places h
+module _ {A : Type 0} {F : Form A} {blank : A} {s start : List ℕ} {count : ℕ} {places : List ℕ} where
+  -- no place is stored
+  pub place_start : length places ≡ count → Ends s start → Placing F blank s start count places 0 start
+  place_start e w = record { pass = pass_start (length-map places (item_at F blank s) ∙ e); ends = w }
 
-    pub standing_start : (places : List ℕ) → standing size blank f 0 places ≡ replicate size blank
-    standing_start places = rw sub-zero refl
+  module _ {i : ℕ} {rest : List ℕ} (w : Placing F blank s start count places i rest) where
+    -- what stands where `rest` begins
+    pub stands_here : {a : A} {t : List ℕ} → got a t ≡ read_in F rest → item_at F blank s (length s - length rest) ≡ a
+    stands_here e =
+        ap (λ (u : List ℕ). value_or blank (read_in F u)) w.ends.is ∙ ap (value_or blank) (sym e)
 
-    -- one more place
-    pub standing_step : (i : ℕ) (places : List ℕ) (p : ℕ) → i < size → length places ≡ size
-        → set (standing size blank f i places) i (f p) ≡ standing size blank f (i + 1) (set places i p)
-    standing_step i places p l e =
-        let here : length (map f (take i places)) ≡ i = long_at i places (omega (arith, e)) in
-        let free : size - i ≡ suc (size - (i + 1)) = omega arith in
-        let last : take (i + 1) (set places i p) ≡ take i places ++ (p ∷ []) =
-        rw add-one (take-suc-set places i p (omega (arith, e))) in
-        let more : map f (take (i + 1) (set places i p)) ≡ map f (take i places) ++ (f p ∷ []) =
-        ap (map f) last ∙ map-append f (take i places) (p ∷ []) in
-        let next : length (map f (take (i + 1) (set places i p))) ≡ i + 1 =
-        long_at (i + 1) (set places i p) (omega (arith, e, length-set places i p)) in
-        let was : standing size blank f i places ≡ map f (take i places) ++ replicate (suc (size - (i + 1))) blank =
-        ap (λ (k : ℕ). map f (take i places) ++ replicate (size - k) blank) here
-        ∙ ap (λ (k : ℕ). map f (take i places) ++ replicate k blank) free in
-        let is : standing size blank f (i + 1) (set places i p)
-        ≡ (map f (take i places) ++ (f p ∷ [])) ++ replicate (size - (i + 1)) blank =
-        ap (λ (k : ℕ). map f (take (i + 1) (set places i p)) ++ replicate (size - k) blank) next
-        ∙ ap (λ (xs : List A). xs ++ replicate (size - (i + 1)) blank) more in
-        ap (λ (xs : List A). set xs i (f p)) was
-        ∙ ap (λ (k : ℕ). set (map f (take i places) ++ replicate (suc (size - (i + 1))) blank) k (f p)) (sym here)
-        ∙ fill (map f (take i places)) (size - (i + 1)) (f p) ∙ sym is
-
--- the first i of `count` items stand at the first i places, and the next one starts at `from`
-pub record Placing {A : Type 0} (F : Form A) (blank : A) (size count : ℕ) (s : List ℕ) (at : ℕ) (places : List ℕ)
-    (i from : ℕ) : Type 0 where
-  pub filling : Filling F blank size count (drop at s) (standing size blank (item_at F blank s) i places) i
-      (drop from s)
-  pub long : length places ≡ size
-
-module _ {A : Type 0} {F : Form A} {blank : A} {size count : ℕ} {s : List ℕ} {at : ℕ} where
-  pub place_start : Placing F blank size count s at (replicate size 0) 0 at
-  place_start =
-      record {
-        filling = rw (standing_start blank (item_at F blank s) size (replicate size 0)) fill_start;
-        long = length-replicate size 0;
-      }
-
-  module _ {places : List ℕ} {i from : ℕ} (w : Placing F blank size count s at places i from) where
-    pub place_step : {a : A} {next : ℕ} → count ≤ size → i < count → Finds F (drop from s) (got a (drop next s))
-        → Placing F blank size count s at (set places i from) (i + 1) next
-    place_step {a} {next} c l f =
-        let one : item_at F blank s from ≡ a = ap (value_or blank) f.is in
-        let more = standing_step blank (item_at F blank s) size i places from (omega arith) w.long in
-        let at_item : set (standing size blank (item_at F blank s) i places) i a
-        ≡ standing size blank (item_at F blank s) (i + 1) (set places i from) =
-        ap (set (standing size blank (item_at F blank s) i places) i) (sym one) ∙ more in
+    -- one place more
+    pub place_step : {a : A} {t : List ℕ} → i < count → got a t ≡ read_in F rest
+        → Placing F blank s start count (set places i (length s - length rest)) (i + 1) t
+    place_step {a} {t} l e =
+        let p = length s - length rest in
         record {
-          filling =
-              subst (λ (xs : List A). Filling F blank size count (drop at s) xs (i + 1) (drop next s)) at_item
-              (fill_step w.filling c l f);
-          long = length-set places i from ∙ w.long;
+          pass =
+              subst (λ (xs : List A). Passing F start count xs (i + 1) t)
+              (ap (set (map (item_at F blank s) places) i) (sym (stands_here e))
+              ∙ sym (map-set (item_at F blank s) places i p))
+              (pass_step w.pass l e);
+          ends = ends_then w.ends (left_ends F rest e);
         }
 
-    pub place_stop : {e why : Refusal} → i < count → Finds F (drop from s) (refused (refusal_number e)) → why ≡ e
-        → Places F blank size count s at (Stopped why) (replicate size 0)
-    place_stop l f q =
+-- the source of the edge at a place
+abbrev pub source_at : ℕ → ℕ → List ℕ → ℕ → ℕ
+source_at n l s p = (edge_at n l s p).source
+
+-- the same of edges: their sources stand beside
+pub record EdgesPlacing (n l : ℕ) (s start : List ℕ) (count : ℕ) (places sources : List ℕ) (i : ℕ) (rest : List ℕ) :
+    Type 0 where
+  pub stand : Placing (edge_form n l) no_edge s start count places i rest
+  pub long : length sources ≡ count
+  pub leave : take i sources ≡ map (source_at n l s) (take i places)
+
+module _ {n l : ℕ} {s start : List ℕ} {count : ℕ} {places sources : List ℕ} where
+  pub edge_start : length places ≡ count → length sources ≡ count → Ends s start
+      → EdgesPlacing n l s start count places sources 0 start
+  edge_start e f w = record { stand = place_start e w; long = f; leave = refl }
+
+  module _ {i : ℕ} {rest : List ℕ} (w : EdgesPlacing n l s start count places sources i rest) where
+    all_long : length places ≡ count
+    all_long = sym (length-map places (edge_at n l s)) ∙ w.stand.pass.long
+
+    -- one edge more
+    pub edge_step : {a : Edge} {t : List ℕ} → i < count → got a t ≡ read_in (edge_form n l) rest
+        → EdgesPlacing n l s start count (set places i (length s - length rest)) (set sources i a.source) (i + 1) t
+    edge_step {a} {t} h e =
+        let p = length s - length rest in
+        let here : source_at n l s p ≡ a.source = ap (λ (x : Edge). x.source) (stands_here w.stand e) in
+        let first : take (i + 1) (set sources i a.source) ≡ take i sources ++ (a.source ∷ []) =
+        rw add-one (take-suc-set sources i a.source (omega (arith, w.long))) in
+        let second : take (i + 1) (set places i p) ≡ take i places ++ (p ∷ []) =
+        rw add-one (take-suc-set places i p (omega (arith, all_long))) in
         record {
-          said = rw q (sym (fill_stop w.filling l f).is);
-          long = length-replicate size 0;
-          beside = λ e' q'. refl;
-        }
-
-    pub place_done : count ≤ size → count ≤ i → Places F blank size count s at (At from) places
-    place_done c l =
-        let all : i ≡ count = omega (arith, w.filling.within) in
-        record {
-          said = sym (subst
-              (λ (k : ℕ). read_in (array size blank count F) (drop at s)
-              ≡ got (standing size blank (item_at F blank s) k places) (drop from s)) all
-              (fill_done w.filling c l).is);
-          long = w.long;
-          beside = λ e q. absurd (stopped q refl);
-        }
-
--- what stands at the places was found
-module _ {A : Type 0} {F : Form A} {blank : A} {size count : ℕ} {s : List ℕ} {at : ℕ} {step : Step} {places : List ℕ}
-    (w : Places F blank size count s at step places) where
-  said : {x : Step} → step ≡ x → read_in (array size blank count F) (drop at s)
-      ≡ step_said s x (standing size blank (item_at F blank s) count places)
-  said q =
-      sym w.said ∙ ap (λ (y : Step). step_said s y (standing size blank (item_at F blank s) count places)) q
-
-  pub placed : {n : ℕ} → step ≡ At n
-      → Finds (array size blank count F) (drop at s)
-      (got (standing size blank (item_at F blank s) count places) (drop n s))
-  placed q = record { is = said q }
-
-  pub unplaced : {e : Refusal} → step ≡ Stopped e
-      → Finds (array size blank count F) (drop at s) (refused (refusal_number e))
-  unplaced q = record { is = said q }
-
--- ---- the edges, with their sources
-pub record EdgesPlacing (n l count : ℕ) (s : List ℕ) (at : ℕ) (places sources : List ℕ) (i from : ℕ) : Type 0 where
-  pub stand : Placing (edge_form n l) no_edge 64 count s at places i from
-  pub leave : Sources n l s i places sources
-
-module _ {n l count : ℕ} {s : List ℕ} {at : ℕ} where
-  pub edge_start : EdgesPlacing n l count s at (replicate 64 0) (replicate 64 0) 0 at
-  edge_start = record { stand = place_start; leave = record { long = refl; are = λ e h. absurd (omega arith) } }
-
-  module _ {places sources : List ℕ} {i from : ℕ} (w : EdgesPlacing n l count s at places sources i from) where
-    pub edge_step : {a : Edge} {next : ℕ} → count ≤ 64 → i < count
-        → Finds (edge_form n l) (drop from s) (got a (drop next s))
-        → EdgesPlacing n l count s at (set places i from) (set sources i a.source) (i + 1) next
-    edge_step {a} {next} c h f =
-        record {
-          stand = place_step w.stand c h f;
+          stand = place_step w.stand h e;
+          long = length-set sources i a.source ∙ w.long;
           leave =
-              record {
-                long = length-set sources i a.source ∙ w.leave.long;
-                are = λ e k. by_place e k (ℕ_discrete e i);
-              };
-        }
-      where
-        by_place : (e : ℕ) → e < i + 1 → Dec (e ≡ i)
-            → get_or (set sources i a.source) e 0 ≡ (edge_at n l s (get_or (set places i from) e 0)).source
-        by_place e k (yes q) =
-            let one : edge_at n l s from ≡ a = ap (value_or no_edge) f.is in
-            rw q (get_or-set_same sources i a.source 0 (omega (arith, w.leave.long))
-            ∙ ap (λ (x : Edge). x.source) (sym one)
-            ∙ ap (λ (p : ℕ). (edge_at n l s p).source)
-            (sym (get_or-set_same places i from 0 (omega (arith, w.stand.long)))))
-        by_place e k (no q) =
-            get_or-set_other sources i e a.source 0 q ∙ w.leave.are e (omega arith)
-            ∙ ap (λ (p : ℕ). (edge_at n l s p).source) (sym (get_or-set_other places i e from 0 q))
-
-    pub edge_stop : {e why : Refusal} → i < count → Finds (edge_form n l) (drop from s) (refused (refusal_number e))
-        → why ≡ e → EdgesPlaced n l count s at (Stopped why) (replicate 64 0) (replicate 64 0)
-    edge_stop h f q =
-        record {
-          stand = place_stop w.stand h f q;
-          leave = λ end r. absurd (stopped refl r);
+              first ∙ ap (λ (xs : List ℕ). xs ++ (a.source ∷ [])) w.leave
+              ∙ ap (λ (x : ℕ). map (source_at n l s) (take i places) ++ (x ∷ [])) (sym here)
+              ∙ sym (map-append (source_at n l s) (take i places) (p ∷ [])) ∙ ap (map (source_at n l s)) (sym second);
         }
 
-    pub edge_done : count ≤ 64 → count ≤ i → EdgesPlaced n l count s at (At from) places sources
-    edge_done c h =
-        let all : i ≡ count = omega (arith, w.stand.filling.within) in
-        record {
-          stand = place_done w.stand c h;
-          leave = λ end r. subst (λ (k : ℕ). Sources n l s k places sources) all w.leave;
-        }
+    -- all of them
+    pub edge_done : count ≤ i → sources ≡ map (source_at n l s) places
+    edge_done h =
+        sym (take_all i sources (omega (arith, w.long))) ∙ w.leave
+        ∙ ap (map (source_at n l s)) (take_all i places (omega (arith, all_long)))
 
--- ---- the goal, with the place of its list
-pub refusing_goal : {n l : ℕ} {s : List ℕ} {at : ℕ} {e w : Refusal} {step : Step} {goal : Goal} (place : ℕ)
-    → Finds (goal_form n l) (drop at s) (refused (refusal_number e)) → w ≡ e → Refuses no_goal w step goal
-    → ReadsGoal n l s at step goal place
-refusing_goal place f q r =
-    record { reads = refusing f q r; stands = λ end p. absurd (stopped r.why p) }
-
-pub giving_goal : {n l : ℕ} {s t : List ℕ} {at next place : ℕ} {goal : Goal}
-    → Finds (goal_form n l) (drop at s) (got goal (drop next s)) → Finds (bounds_form n) (drop place s) (got goal.list t)
-    → ReadsGoal n l s at (At next) goal place
-giving_goal f b = record { reads = giving f; stands = λ end p. sym (ap (value_or no_bounds) b.is) }
+-- as many places are stored as items are read
+pub many_placed : {A : Type 0} (F : Form A) (f : ℕ → A) (n : ℕ) (s : List ℕ) (places : List ℕ) {t : List ℕ}
+    → got (map f places) t ≡ read_in (many n F) s → length places ≡ n
+many_placed F f n s places e = sym (length-map places f) ∙ many_long F n s (sym e)

@@ -5,17 +5,15 @@ use Prim.Native.Nat.{ℕ, ◌≤◌, ◌<◌}
 use native.Mathlib.Omega.{arith}
 use lib.ListN.{length, get_or, take}
 use lib.Seq.{take-take}
+use Rattle.std.specs.Prelude.{Result, Ok, Err}
 use Rattle.numbers.specs.declared.Refusal.{Refusal}
 use Rattle.numbers.proofs.RefusalLaws.{number_inj}
-use Rattle.codec.specs.declared.Step.{Step}
-use Rattle.codec.specs.declared.Step.TheVariants.{At, Refused as Stopped}
+use Rattle.std.specs.Prelude.{Result, Ok, Err}
 use Rattle.codec.specs.Number.{Got, got, refused}
 use Rattle.codec.specs.Form.{read_in}
 use Rattle.codec.specs.Arrays.{AreBytes}
 use Rattle.model.specs.declared.Model.{Model}
 use Rattle.model.specs.declared.Outline.{Outline}
-use Rattle.model.specs.declared.Written.{Written}
-use Rattle.model.specs.declared.Written.TheVariants.{Bytes as Count, Refused}
 use Rattle.model.specs.Models.{model_form, past_edge}
 use Rattle.model.specs.Limits.{ModelLimits}
 use Rattle.model.specs.Written.{model_bytes}
@@ -82,52 +80,46 @@ apart : {A : Type 0} {a : A} {n : ℕ} → ◌≡◌ {A = Said A} (value a) (ref
 apart q = let z : ◌≡◌ {A = ℕ} 0 1 = cc in omega arith
 
 -- two answers of `read` to the same bytes are equal
-pub read_settled : (s : List ℕ) (p q : Step) (m n : Model) → ReadsModel s p m → ReadsModel s q n → (p ≡ q) × (m ≡ n)
-read_settled s (At a) (At b) m n v w =
-    (ap At (v.whole a refl ∙ sym (w.whole b refl)), same_value (v.said ∙ sym w.said))
-read_settled s (Stopped e) (Stopped f) m n v w =
-    (ap Stopped (number_inj e f (same_number (v.said ∙ sym w.said))), v.beside e refl ∙ sym (w.beside f refl))
-read_settled s (At a) (Stopped f) m n v w = absurd (apart (v.said ∙ sym w.said))
-read_settled s (Stopped e) (At b) m n v w = absurd (apart (w.said ∙ sym v.said))
+pub read_settled : (s : List ℕ) (p q : Result Model Refusal) → ReadsModel s p → ReadsModel s q → p ≡ q
+read_settled s (Ok m) (Ok n) v w = ap Ok (same_value (v.said ∙ sym w.said))
+read_settled s (Err e) (Err f) v w = ap Err (number_inj e f (same_number (v.said ∙ sym w.said)))
+read_settled s (Ok m) (Err f) v w = absurd (apart (v.said ∙ sym w.said))
+read_settled s (Err e) (Ok n) v w = absurd (apart (w.said ∙ sym v.said))
 
--- two answers of `read_outline` to the same bytes: the places may differ, and what stands there is the same
-pub record SameOutline (s : List ℕ) (p q : Step) (o u : Outline) : Type 0 where
-  pub step : p ≡ q
+-- two outlines of the same bytes: the places may differ, and what stands there is the same
+pub record SameOutline (s : List ℕ) (o u : Outline) : Type 0 where
   pub model : model_by s o ≡ model_by s u
   pub sources : (e : ℕ) → e < o.edges → get_or o.sources e 0 ≡ get_or u.sources e 0
-  pub beside : (e : Refusal) → p ≡ Stopped e → o ≡ u
 
-pub outline_settled : (s : List ℕ) (p q : Step) (o u : Outline) → ReadsOutline s p o → ReadsOutline s q u
-    → SameOutline s p q o u
-outline_settled s (At a) (At b) o u v w =
+-- two answers of `read_outline`: the same refusal, or outlines with the same model
+abbrev pub SameOutlined : List ℕ → Result Outline Refusal → Result Outline Refusal → Type 0
+SameOutlined s (Ok o) (Ok u) = SameOutline s o u
+SameOutlined s (Err e) (Err f) = e ≡ f
+SameOutlined s (Ok o) (Err f) = ⊥
+SameOutlined s (Err e) (Ok u) = ⊥
+
+pub outline_settled : (s : List ℕ) (p q : Result Outline Refusal) → ReadsOutline s p → ReadsOutline s q
+    → SameOutlined s p q
+outline_settled s (Ok o) (Ok u) v w =
     let same : model_by s o ≡ model_by s u = same_value (v.said ∙ sym w.said) in
     record {
-      step = ap At (v.whole a refl ∙ sym (w.whole b refl));
       model = same;
       sources = λ e h.
-          (v.holds a refl).sources e h ∙ ap (λ (m : Model). (get_or m.steps e past_edge).source) same
-          ∙ sym ((w.holds b refl).sources e (subst (λ (m : Model). e < m.edges) same h));
-      beside = λ e r. absurd (let z : ◌≡◌ {A = ℕ} 0 1 = cc in omega arith);
+          v.holds.sources e h ∙ ap (λ (m : Model). (get_or m.steps e past_edge).source) same
+          ∙ sym (w.holds.sources e (subst (λ (m : Model). e < m.edges) same h));
     }
-outline_settled s (Stopped e) (Stopped f) o u v w =
-    let same : o ≡ u = v.beside e refl ∙ sym (w.beside f refl) in
-    record {
-      step = ap Stopped (number_inj e f (same_number (v.said ∙ sym w.said)));
-      model = ap (model_by s) same;
-      sources = λ i h. ap (λ (x : Outline). get_or x.sources i 0) same;
-      beside = λ i r. same;
-    }
-outline_settled s (At a) (Stopped f) o u v w = absurd (apart (v.said ∙ sym w.said))
-outline_settled s (Stopped e) (At b) o u v w = absurd (apart (w.said ∙ sym v.said))
+outline_settled s (Err e) (Err f) v w = number_inj e f (same_number (v.said ∙ sym w.said))
+outline_settled s (Ok o) (Err f) v w = absurd (apart (v.said ∙ sym w.said))
+outline_settled s (Err e) (Ok u) v w = absurd (apart (w.said ∙ sym v.said))
 
-same_answer : (r q : Written) → written_said r ≡ written_said q → r ≡ q
-same_answer (Count a) (Count b) e = ap Count (same_value e)
-same_answer (Refused a) (Refused b) e = ap Refused (number_inj a b (same_number e))
-same_answer (Count a) (Refused b) e = absurd (apart e)
-same_answer (Refused a) (Count b) e = absurd (apart (sym e))
+same_answer : (r q : Result ℕ Refusal) → written_said r ≡ written_said q → r ≡ q
+same_answer (Ok a) (Ok b) e = ap Ok (same_value e)
+same_answer (Err a) (Err b) e = ap Err (number_inj a b (same_number e))
+same_answer (Ok a) (Err b) e = absurd (apart e)
+same_answer (Err a) (Ok b) e = absurd (apart (sym e))
 
 -- two answers of `write` to the same model and area, and the areas after them, are equal
-pub write_settled : (m : Model) (before after last : List ℕ) (r q : Written)
+pub write_settled : (m : Model) (before after last : List ℕ) (r q : Result ℕ Refusal)
     → WritesModel m before after (written_said r) → WritesModel m before last (written_said q) → (r ≡ q) ×
     (after ≡ last)
 write_settled m before after last r q v w = let both = by_cases v w in (same_answer r q both.0, both.1)

@@ -1,16 +1,12 @@
 -- What reading and writing a model answer, as the rules' numbers and values.
-use Rattle.std.specs.Prelude.{List, ◌++◌, ◌≡◌, ℕ, ◌≤◌, ◌<◌, length, drop}
+use Rattle.std.specs.Prelude.{List, ◌++◌, ◌≡◌, ℕ, ◌≤◌, ◌<◌, length, drop, Result, Ok, Err, IfOk}
 use Rattle.numbers.specs.Refusals.{refusal_number}
 use Rattle.numbers.specs.declared.Refusal.{Refusal}
 use Rattle.numbers.specs.declared.Refusal.TheVariants.{Shape, Model as Field}
-use Rattle.codec.specs.declared.Step.{Step}
-use Rattle.codec.specs.declared.Step.TheVariants.{At, Refused as Stopped}
 use Rattle.codec.specs.Form.{read_in}
 use Rattle.model.specs.declared.Model.{Model}
-use Rattle.model.specs.declared.Written.{Written}
-use Rattle.model.specs.declared.Written.TheVariants.{Bytes as Count, Refused}
 pub use Rattle.model.specs.Bytes.{Said, value, refusal, wholly}
-use Rattle.model.specs.Models.{model_form, no_model}
+use Rattle.model.specs.Models.{model_form}
 use Rattle.model.specs.Limits.{ModelLimits}
 use Rattle.model.specs.Written.{model_bytes}
 
@@ -19,26 +15,24 @@ unfoldable pub read_of : List ℕ → Said Model
 read_of s = wholly (read_in model_form s)
 
 -- the answer of `read`
-abbrev pub reading_said : Step → Model → Said Model
-reading_said (At end) m = value m
-reading_said (Stopped e) m = refusal (refusal_number e)
+abbrev pub reading_said : Result Model Refusal → Said Model
+reading_said (Ok m) = value m
+reading_said (Err e) = refusal (refusal_number e)
 
 -- the bytes are those of a model in limits
 pub record Stands (s : List ℕ) (m : Model) : Type 0 where
   pub limits : ModelLimits m
   pub bytes : s ≡ model_bytes m
 
--- `read`: the model that the bytes stand for, or the first fault's refusal with the model 0
-pub record ReadsModel (s : List ℕ) (step : Step) (m : Model) : Type 0 where
-  pub said : reading_said step m ≡ read_of s
-  pub whole : (end : ℕ) → step ≡ At end → end ≡ length s
-  pub stands : (end : ℕ) → step ≡ At end → Stands s m
-  pub beside : (e : Refusal) → step ≡ Stopped e → m ≡ no_model
+-- `read`: the model that the bytes stand for, or the first fault's refusal
+pub record ReadsModel (s : List ℕ) (r : Result Model Refusal) : Type 0 where
+  pub said : reading_said r ≡ read_of s
+  pub stands : IfOk r (Stands s)
 
 -- the answer of `write`
-abbrev pub written_said : Written → Said ℕ
-written_said (Count n) = value n
-written_said (Refused e) = refusal (refusal_number e)
+abbrev pub written_said : Result ℕ Refusal → Said ℕ
+written_said (Ok n) = value n
+written_said (Err e) = refusal (refusal_number e)
 
 -- `write`: 8 outside the limits, then 1 where the area is short, each with the area as at entry; else the bytes at the
 -- area's start, and what is behind them as at entry

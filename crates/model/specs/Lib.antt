@@ -5,4 +5,3 @@ pub mod Written
 pub mod Answers
 pub mod Plain
 pub mod Outlines
-pub mod Surveys

@@ -1,5 +1,5 @@
 -- A model's form in bytes. Clocks and locations count from 0.
-use Rattle.std.specs.Prelude.{cond, List, [], ℕ, ◌^◌, eqb, replicate}
+use Rattle.std.specs.Prelude.{cond, List, [], ℕ, ◌^◌, eqb}
 use Rattle.codec.specs.Form.{Form, done, ask, fault, ◌>>=◌, array}
 use Rattle.bounds.specs.declared.Bounds.{Bounds}
 use Rattle.bounds.specs.Bounds.{no_bounds, bounds_form}
@@ -8,21 +8,9 @@ use Rattle.model.specs.declared.Model.{Model}
 use Rattle.model.specs.declared.reader.Head.{Head}
 use Rattle.model.specs.declared.reader.Goal.{Goal}
 
--- what stands where there is no edge, and where there is no model
+-- what stands where there is no edge
 abbrev pub no_edge : Edge
 no_edge = record { source = 0; destination = 0; guard = no_bounds; resets = 0 }
-
-abbrev pub no_invariants : List Bounds
-no_invariants = replicate 32 no_bounds
-
-abbrev pub no_edges : List Edge
-no_edges = replicate 64 no_edge
-
-abbrev pub no_head : Head
-no_head = record { clocks = 0; locations = 0; edges = 0; initial = 0 }
-
-abbrev pub no_goal : Goal
-no_goal = record { target = 0; list = no_bounds; depth = 0 }
 
 -- a model from its parts
 abbrev pub assembled : Head → List Bounds → List Edge → Goal → Model
@@ -38,9 +26,6 @@ assembled h is es g =
       list = g.list;
       depth = g.depth;
     }
-
-abbrev pub no_model : Model
-no_model = assembled no_head no_invariants no_edges no_goal
 
 -- a number that must not be 0
 abbrev pub positive : {A : Type 0} → ℕ → Form A → Form A

@@ -1,11 +1,9 @@
 -- The outline of a model's bytes, and the model that it stands for: each list and each edge is read where it stands.
-use Rattle.std.specs.Prelude.{List, map, ◌≡◌, ℕ, ◌<◌, length, get_or, take, drop, replicate}
+use Rattle.std.specs.Prelude.{List, map, ◌≡◌, ℕ, ◌<◌, length, get_or, take, drop, Result, Ok, Err, IfOk}
 use Rattle.numbers.specs.Refusals.{refusal_number}
 use Rattle.numbers.specs.declared.Refusal.{Refusal}
 use Rattle.codec.specs.Number.{Got, got, refused}
 use Rattle.codec.specs.Form.{Form, read_in, padded}
-use Rattle.codec.specs.declared.Step.{Step}
-use Rattle.codec.specs.declared.Step.TheVariants.{At, Refused as Stopped}
 use Rattle.bounds.specs.declared.Bounds.{Bounds}
 use Rattle.bounds.specs.Bounds.{no_bounds, bounds_form}
 use Rattle.model.specs.declared.Edge.{Edge}
@@ -56,30 +54,12 @@ pub record Outlines (s : List ℕ) (o : Outline) : Type 0 where
   pub lists : length o.invariants ≡ 32
   pub places : length o.steps ≡ 64
 
--- the outline that stands where there is no model
-abbrev pub no_outline : Outline
-no_outline =
-    record {
-      clocks = 0;
-      locations = 0;
-      edges = 0;
-      initial = 0;
-      invariants = replicate 32 0;
-      steps = replicate 64 0;
-      sources = replicate 64 0;
-      target = 0;
-      list = 0;
-      depth = 0;
-    }
-
 -- the answer of `read_outline`
-abbrev pub outline_said : List ℕ → Step → Outline → Said Model
-outline_said s (At end) o = value (model_by s o)
-outline_said s (Stopped e) o = refusal (refusal_number e)
+abbrev pub outline_said : List ℕ → Result Outline Refusal → Said Model
+outline_said s (Ok o) = value (model_by s o)
+outline_said s (Err e) = refusal (refusal_number e)
 
--- `read_outline`: that of the model that the bytes stand for, or the first fault's refusal with the outline 0
-pub record ReadsOutline (s : List ℕ) (step : Step) (o : Outline) : Type 0 where
-  pub said : outline_said s step o ≡ read_of s
-  pub holds : (end : ℕ) → step ≡ At end → Outlines s o
-  pub beside : (e : Refusal) → step ≡ Stopped e → o ≡ no_outline
-  pub whole : (end : ℕ) → step ≡ At end → end ≡ length s
+-- `read_outline`: that of the model that the bytes stand for, or the first fault's refusal
+pub record ReadsOutline (s : List ℕ) (r : Result Outline Refusal) : Type 0 where
+  pub said : outline_said s r ≡ read_of s
+  pub holds : IfOk r (Outlines s)

@@ -6,7 +6,6 @@ ghost use Rattle.model.specs.Models.{no_edge};
 ghost use Rattle.model.specs.Answers.{ReadsModel, WritesModel, written_said};
 
 use bounds::Bounds;
-use codec::Step;
 use numbers::Refusal;
 
 mod limits;
@@ -15,7 +14,7 @@ mod writer;
 pub mod places; // places.rt: where the parts of a model stand in its bytes
 
 // An edge. Bit i of `resets` stands for clock i.
-#[derive(Clone, Copy)]
+#[derive(Clone, Copy, Debug, PartialEq, Eq)]
 pub struct Edge {
     pub source: u32,
     pub destination: u32,
@@ -24,7 +23,7 @@ pub struct Edge {
 }
 
 // A model. What is behind the first `locations` invariants and the first `edges` steps is unused.
-#[derive(Clone, Copy)]
+#[derive(Clone, Copy, Debug, PartialEq, Eq)]
 pub struct Model {
     pub clocks: u32,
     pub locations: u32,
@@ -52,36 +51,14 @@ pub struct Outline {
     pub depth: u32,
 }
 
-// The answer of `read_outline`: where the bytes end or why they are refused, and the outline beside it.
-#[derive(Clone, Copy)]
-pub struct Outlined {
-    pub step: Step,
-    pub outline: Outline,
-}
-
-// The answer of `read`: where the bytes end or why they are refused, and the model beside it.
-#[derive(Clone, Copy)]
-pub struct Reading {
-    pub step: Step,
-    pub model: Model,
-}
-
-// How many bytes were written, or why none were.
-#[derive(Clone, Copy)]
-pub enum Written {
-    Bytes(usize),
-    Refused(Refusal),
-}
-
 // The edge that stands where there is none.
 pub fn no_edge() -> Edge
     ensures { result ≡ no_edge }
 {
-    let guard = bounds::no_bounds();
     Edge {
         source: 0,
         destination: 0,
-        guard,
+        guard: bounds::no_bounds(),
         resets: 0,
     }
 }
@@ -95,40 +72,19 @@ fn reset_sets(n: u32) -> u32
 }
 
 // Reads a model: the model that the bytes stand for, or the refusal of the first fault.
-pub fn read(bytes: &[u8]) -> Reading
-    ensures { ReadsModel bytes.now result.step result.model }
+pub fn read(bytes: &[u8]) -> Result<Model, Refusal>
+    ensures { ReadsModel bytes.now result }
 {
-    let h = reader::read_head(bytes);
-    let head_step = h.step;
-    let head = h.head;
-    let Step::At(after_head) = head_step else {
-        return reader::refused_model(head_step.why());
-    };
+    let (head, s) = reader::read_head(bytes)?;
     let n = head.clocks;
     let l = head.locations;
-    let i = reader::read_invariants(bytes, after_head, n, l as usize);
-    let invariants_step = i.step;
-    let invariants = i.invariants;
-    let Step::At(after_invariants) = invariants_step else {
-        return reader::refused_model(invariants_step.why());
-    };
-    let e = reader::read_edges(bytes, after_invariants, n, l, head.edges as usize);
-    let edges_step = e.step;
-    let steps = e.steps;
-    let Step::At(after_edges) = edges_step else {
-        return reader::refused_model(edges_step.why());
-    };
-    let g = reader::read_goal(bytes, after_edges, n, l);
-    let goal_step = g.step;
-    let goal = g.goal;
-    let Step::At(end) = goal_step else {
-        return reader::refused_model(goal_step.why());
-    };
-    if end < bytes.len() {
-        return reader::refused_model(Refusal::Bytes);
+    let (invariants, s) = reader::read_invariants(s, n, l as usize)?;
+    let (steps, s) = reader::read_edges(s, n, l, head.edges as usize)?;
+    let (goal, s) = reader::read_goal(s, n, l)?;
+    if !s.is_empty() {
+        return Err(Refusal::Bytes);
     }
-    let list = goal.list;
-    let model = Model {
+    Ok(Model {
         clocks: n,
         locations: l,
         edges: head.edges,
@@ -136,32 +92,26 @@ pub fn read(bytes: &[u8]) -> Reading
         invariants,
         steps,
         target: goal.target,
-        list,
+        list: goal.list,
         depth: goal.depth,
-    };
-    Reading {
-        step: Step::At(bytes.len()),
-        model,
-    }
+    })
 }
 
 // Writes a model: its bytes at the start of the area, or the refusal, and the area as it was.
-pub fn write(model: Model, out: &mut [u8]) -> Written
-    ensures { WritesModel model out.old out.new (written_said result) }
+pub fn write(model: &Model, out: &mut [u8]) -> Result<usize, Refusal>
+    ensures { WritesModel model.now out.old out.new (written_said result) }
 {
-    let fits = limits::model_fits(model);
-    if !fits {
-        return Written::Refused(Refusal::Model);
+    if !limits::model_fits(model) {
+        return Err(Refusal::Model);
     }
     if 33664 <= out.len() {
-        let end = writer::write_model(&mut *out, model); // no model is longer
-        return Written::Bytes(end);
+        return Ok(writer::write_model(out, model)); // no model is longer
     }
     let mut bytes = [0u8; 33664];
     let end = writer::write_model(&mut bytes, model);
     if out.len() < end {
-        return Written::Refused(Refusal::Shape);
+        return Err(Refusal::Shape);
     }
-    writer::copy(&mut *out, &bytes[..end]);
-    Written::Bytes(end)
+    out[..end].copy_from_slice(&bytes[..end]);
+    Ok(end)
 }

@@ -1,25 +1,19 @@
 -- Laws of the numbers of a list of words.
-use mathlib.Core.Path.{◌≡◌, refl, sym, ◌∙◌, ap, subst, subst⁻¹}
-use mathlib.Core.List.{List, [], ◌∷◌, ◌++◌}
+use mathlib.Core.Path.{◌≡◌, refl, sym, ◌∙◌, ap, subst}
+use mathlib.Core.List.{List}
 use mathlib.Core.Logic.{◌≢◌}
-use Prim.Native.Nat.{ℕ, zero, suc, ◌+◌, ◌≤◌, ◌<◌}
+use Prim.Native.Nat.{ℕ, ◌+◌, ◌≤◌, ◌<◌}
 use native.Mathlib.Omega.{arith}
 use native.Mathlib.Numerals.{add-one}
-use native.Mathlib.Decide.{ℕ_discrete, dec_lt}
 use borrow.Author.Count.{below_more}
 use lib.IntN.{ℤ, pos}
-use lib.ListN.{length, get_or, set, replicate}
-use lib.ListN.{length-set, length-append, get_or-append, get_or-eq_default}
-use lib.Seq.{get_or-set_same, get_or-set_other, get_or-append-add}
-use lib.Signed.{mag}
-use mir.Syntax.{w32}
-use mir.Val.{to_z, of_z}
-use mir.Facts.{Fits-of_z}
-use Rattle.numbers.proofs.WordLaws.{back}
+use lib.ListN.{length, get_or, set}
+use lib.ListN.{length-set}
+use lib.Seq.{get_or-set_same, get_or-set_other}
 use Rattle.numbers.specs.Numbers.{Num, −∞, ◌⊕◌, ◌⊗◌, ⨁, Within}
 use Rattle.numbers.specs.Words.{number}
-use Rattle.numbers.specs.Places.{Vec, entries, side_of, Mixed, Lifted, Ended}
-use Rattle.numbers.specs.Weights.{Cap, bound, meet, allowed, cap_of}
+use Rattle.numbers.specs.Places.{Vec, entries, side_of}
+use Rattle.numbers.specs.Weights.{Cap, bound, meet, allowed}
 use Rattle.numbers.proofs.NumberLaws.{⊗_low, ⊕_low, ⊗_within, ⨁_within}
 use Rattle.numbers.proofs.WeightLaws.{meet_turn}
 
@@ -55,17 +49,6 @@ pub record Filling (from : ℕ) (want : ℕ → Num → Num) (before after : Lis
   pub front : (k : ℕ) → k < from → get_or after k (pos 0) ≡ get_or before k (pos 0)
 
 module _ (from : ℕ) (want : ℕ → Num → Num) (before : List ℤ) where
-  -- nothing is done yet
-  pub filling_start : from ≤ length before → Filling from want before before from
-  filling_start h = record {
-    begun = omega arith;
-    inside = h;
-    long = refl;
-    done = λ k l b. absurd (omega arith);
-    rest = λ k l. refl;
-    front = λ k l. refl;
-  }
-
   -- one place more is as wanted already
   pub filling_same : (after : List ℤ) (j : ℕ) → Filling from want before after j → j < length before
       → entries after j ≡ want j (entries after j) → Filling from want before after (j + 1)
@@ -105,18 +88,6 @@ lifting h t k x = x ⊕ (t ⊗ entries h k)
 pub lifting_none : (x t : Num) {g : Num} → g ≡ −∞ → x ≡ x ⊕ (t ⊗ g)
 lifting_none x t e = sym (ap (λ (z : Num). x ⊕ z) (ap (λ (z : Num). t ⊗ z) e ∙ ⊗_low t) ∙ ⊕_low x)
 
--- all places are mixed
-pub mixing_done : (before : List ℤ) (s : Num) (h : List ℤ) (t : Num) (after : List ℤ) (j : ℕ)
-    → Filling 0 (mixing s h t) before after j → length before ≤ j → Mixed before s h t after
-mixing_done before s h t after j m l =
-    record { long = m.long; right = λ k b. m.done k (omega arith) (omega arith) }
-
--- all places from `from` on are lifted
-pub lifting_done : (from : ℕ) (before h : List ℤ) (t : Num) (after : List ℤ) (j : ℕ)
-    → Filling from (lifting h t) before after j → length before ≤ j → Lifted from before h t after
-lifting_done from before h t after j m l =
-    record { long = m.long; right = λ k f b. m.done k (omega arith) f; rest = m.front }
-
 -- ---- weights place by place, from the last
 -- the bound takes over what place k, the last of the first j, allows
 pub weigh_back : (j k : ℕ) (g x : Vec) (p q a : Cap) → j ≡ k + 1 → meet (allowed j g x) p ≡ a
@@ -130,75 +101,7 @@ weigh_back j k g x p q a e h r =
     allowed_more : (d : ℕ) (g x : Vec) → meet (allowed d g x) (bound (x d) (g d)) ≡ allowed (d + 1) g x
     allowed_more d g x = unfold allowed in rw add-one
 
--- the same where the new bound r is kept as bits
-pub weigh_next : (r : ℤ) (m j k : ℕ) (g x : Vec) (a : Cap) → mag r < 2147483648 → j ≡ k + 1
-    → meet (allowed j g x) (cap_of (to_z w32 m)) ≡ a → cap_of r ≡ meet (cap_of (to_z w32 m)) (bound (x k) (g k))
-    → (of_z w32 r < 4294967296) × (meet (allowed k g x) (cap_of (to_z w32 (of_z w32 r))) ≡ a)
-weigh_next r m j k g x a f e h q = (
-  (Fits-of_z {w = w32} {z = r} (record { sfits = f })).fits,
-  weigh_back j k g x (cap_of (to_z w32 m)) (cap_of (to_z w32 (of_z w32 r))) a e h (ap cap_of (back f) ∙ q),
-)
-
 -- the bound alone is left
 pub weigh_all : (j : ℕ) (g x : Vec) (p a : Cap) → j ≡ 0 → meet (allowed j g x) p ≡ a → p ≡ a
 unfolding allowed meet
 weigh_all j g x p a e h = subst (λ (i : ℕ). meet (allowed i g x) p ≡ a) e h
-
--- ---- a vector word by word
--- the first j words are the clocks', and the rest is 0
-pub record Copied (clocks words : List ℤ) (j : ℕ) : Type 0 where
-  pub inside : j ≤ length clocks
-  pub long : length words ≡ 7
-  pub done : (k : ℕ) → k < j → get_or words k (pos 0) ≡ get_or clocks k (pos 0)
-  pub rest : (k : ℕ) → j ≤ k → get_or words k (pos 0) ≡ pos 0
-
-module _ (clocks : List ℤ) where
-  -- nothing is copied yet
-  pub copied_start : Copied clocks (replicate 7 (pos 0)) 0
-  copied_start = record {
-    inside = omega arith;
-    long = refl;
-    done = λ k l. absurd (omega arith);
-    rest = λ k l. get_d_replicate_pos 7 k;
-  }
-    where
-      get_d_replicate_pos : (n k : ℕ) → get_or (replicate n (pos 0)) k (pos 0) ≡ pos 0
-      get_d_replicate_pos zero k = refl
-      get_d_replicate_pos (suc n) zero = refl
-      get_d_replicate_pos (suc n) (suc k) = get_d_replicate_pos n k
-
-  -- one word more is copied
-  pub copied_next : (words : List ℤ) (j : ℕ) (v : ℤ) → Copied clocks words j → j < length clocks → j < 7
-      → v ≡ get_or clocks j (pos 0)
-      → Copied clocks (set words j v) (j + 1)
-  copied_next words j v m l b e = record {
-    inside = omega arith;
-    long = length-set words j v ∙ m.long;
-    done = below_more (λ (k : ℕ). get_or (set words j v) k (pos 0) ≡ get_or clocks k (pos 0)) j
-        (λ k b. let ne : k ≢ j = omega arith in get_or-set_other words j k v (pos 0) ne ∙ m.done k b)
-        (get_or-set_same words j v (pos 0) (omega (arith, m.long)) ∙ e);
-    rest = λ k b. let ne : k ≢ j = omega arith in get_or-set_other words j k v (pos 0) ne ∙ m.rest k (omega arith);
-  }
-
-  -- the last word set behind all the clocks
-  pub copied_done : (words : List ℤ) (j : ℕ) (v : ℤ) → Copied clocks words j → j ≡ length clocks → j < 7
-      → Ended clocks v (set words j v)
-  copied_done words j v m e b = record {
-    long = length-set words j v ∙ m.long;
-    same = λ k. at k (dec_lt k j) (ℕ_discrete k j);
-  }
-    where
-      behind : (k : ℕ) → get_or (clocks ++ (v ∷ [])) (j + k) (pos 0) ≡ get_or (v ∷ []) k (pos 0)
-      behind k = rw e (get_or-append-add clocks (v ∷ []) k (pos 0))
-
-      at : (k : ℕ) → Dec (k < j) → Dec (k ≡ j) → get_or (set words j v) k (pos 0) ≡ get_or (clocks ++ (v ∷ [])) k (pos 0)
-      at k (yes l) d = let ne : k ≢ j = omega arith in
-          get_or-set_other words j k v (pos 0) ne ∙ m.done k l
-          ∙ sym (get_or-append clocks (v ∷ []) (pos 0) k (omega arith))
-      at k (no l) (yes q) = subst⁻¹ (λ (i : ℕ). get_or (set words j v) i (pos 0) ≡ get_or (clocks ++ (v ∷ [])) i (pos 0)) q
-          (get_or-set_same words j v (pos 0) (omega (arith, m.long))
-          ∙ sym (subst (λ (i : ℕ). get_or (clocks ++ (v ∷ [])) i (pos 0) ≡ v) (omega arith) (behind 0)))
-      at k (no l) (no q) = let ne : k ≢ j = omega arith in
-          get_or-set_other words j k v (pos 0) ne ∙ m.rest k (omega arith)
-          ∙ sym (get_or-eq_default (clocks ++ (v ∷ [])) (pos 0) {n = k}
-          (omega (arith, length-append clocks (v ∷ []))))

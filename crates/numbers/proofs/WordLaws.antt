@@ -9,17 +9,18 @@ use Prim.Native.Nat.{ℕ, ◌≤◌, ◌<◌}
 use native.Mathlib.Omega.{arith}
 use lib.Dec.{T, eqb→eq}
 use lib.IntN.{ℤ, pos, negsuc, ◌+ℤ◌, ◌-ℤ◌}
-use lib.Signed.{lt_z, le_z, mag, non_neg}
+use lib.Signed.{lt_z, mag, non_neg}
 use mir.Syntax.{w32}
 use mir.Val.{SFits, of_z, to_z}
 use mir.Facts.{to_z-of_z, of_z-to_z, sfits_to_z}
 use Rattle.numbers.specs.Integers.{hi, lo, ◌⊑◌}
-use Rattle.numbers.specs.Numbers.{Num, −∞, fin, IsFin, at_most, ◌≼◌, ◌⊗◌, Within}
+use Rattle.std.specs.Int.{int_max, int_min}
+use Rattle.numbers.specs.Numbers.{Num, −∞, fin, IsFin, at_most, ◌≼◌, ◌⊕◌, ◌⊗◌, Near, Within}
 use Rattle.numbers.specs.Words.{mark, is_mark, number, word}
 use Rattle.numbers.specs.Weights.{Cap, free, cap, bound, lower, meet, allowed, value, weight_of, is_free, cap_of}
 use Rattle.numbers.specs.Places.{Vec}
 use Rattle.numbers.proofs.IntegerLaws.{sum, diff, hi_le, lo_le, lt_z_true, zarith}
-use Rattle.numbers.proofs.NumberLaws.{low_≼, ≼_antisym, tells_at_most}
+use Rattle.numbers.proofs.NumberLaws.{low_≼, ≼_antisym, tells_at_most, ≼_⊕, ⊕_comm}
 use Rattle.numbers.proofs.WeightLaws.{meet_free, meet_low}
 use Rattle.numbers.proofs.Tells.{passes}
 
@@ -64,23 +65,33 @@ not_mark {z} f h = go (seen f)
     go (inl m) = absurd (h (ap (λ (x : ℤ). of_z w32 x) m.mark))
     go (inr p) = p
 
--- the test `LEAST <= a` passed
-pub not_low : {z : ℤ} → SFits w32 z → le_z (negsuc 999999999) (to_z w32 (of_z w32 z)) ≡ true → Finite z
-not_low {z} f e = go (seen f)
+fits_of : (z : ℤ) (t : Bool) → is_mark z ≡ t → Near 1000000000 (cond t −∞ (fin z)) → SFits w32 z
+fits_of (pos n) true e w = absurd (true≢false (sym e))
+fits_of (pos n) false e w = record { sfits = omega arith }
+fits_of (negsuc n) true e w = record { sfits = omega (arith, eqb→eq n 2147483647 (rw e tt)) }
+fits_of (negsuc n) false e w = record { sfits = omega arith }
+
+-- a number within the bound is a word's
+pub near_fits : {z : ℤ} → Within 1000000000 (number z) → SFits w32 z
+unfolding number
+near_fits {z} w = fits_of z (is_mark z) refl w.near
+
+-- a word that is not below LEAST
+pub not_low : {z : ℤ} → Within 1000000000 (number z) → negsuc 999999999 ⊑ to_z w32 (of_z w32 z) → Finite z
+not_low {z} w h = go (seen (near_fits w))
   where
     go : Marked z ⊎ Finite z → Finite z
-    go (inl m) = let h : le_z (negsuc 999999999) z ≡ true = rw (to_z-of_z f) at e in absurd (omega (zarith, rw m.mark at h))
+    go (inl m) = let l = rw (to_z-of_z (near_fits w), m.mark) at h in absurd (omega arith)
     go (inr p) = p
 
--- the test `LEAST <= a` failed
-pub is_low : {z : ℤ} → SFits w32 z → Within 1000000000 (number z) → le_z (negsuc 999999999) (to_z w32 (of_z w32 z)) ≡ false
-    → Marked z
-is_low {z} f w e = go (seen f)
+-- a word below LEAST
+pub is_low : {z : ℤ} → Within 1000000000 (number z) → to_z w32 (of_z w32 z) ⊑ negsuc 1000000000 → Marked z
+is_low {z} w h = go (seen (near_fits w))
   where
     go : Marked z ⊎ Finite z → Marked z
     go (inl m) = m
     go (inr p) =
-        let h : le_z (negsuc 999999999) z ≡ false = rw (to_z-of_z f) at e in
+        let l = rw (to_z-of_z (near_fits w)) at h in
         let n : (hi z ≤ 1000000000) × (lo z ≤ 1000000000) = rw p.is at w.near in
         absurd (omega (zarith, n.1))
 
@@ -100,10 +111,6 @@ back h = to_z-of_z {w = w32} (record { sfits = h })
 pub word_is : (x : ℕ) → x < 2147483648 → to_z w32 x ≡ pos x
 word_is x h = to_z-of_z {w = w32} {z = pos x} (record { sfits = omega arith })
 
--- the test `a < b` passed
-pub lt_yes : {a b : ℤ} → SFits w32 a → SFits w32 b → lt_z (to_z w32 (of_z w32 a)) (to_z w32 (of_z w32 b)) ≡ true → a ⊑ b
-lt_yes {a} {b} f g e = let h : lt_z a b ≡ true = rw (to_z-of_z f, to_z-of_z g) at e in omega zarith
-
 -- the test `a < b` failed
 pub lt_no : {a b : ℤ} → SFits w32 a → SFits w32 b → lt_z (to_z w32 (of_z w32 a)) (to_z w32 (of_z w32 b)) ≡ false → b ⊑ a
 lt_no {a} {b} f g e = let h : lt_z a b ≡ false = rw (to_z-of_z f, to_z-of_z g) at e in omega zarith
@@ -116,6 +123,14 @@ number_mono {a} {b} f g h = go (seen f) (seen g)
     go (inl m) q = rw m.is low_≼
     go (inr p) (inl m) = absurd (omega (zarith, rw m.mark at h))
     go (inr p) (inr q) = rw (p.is, q.is) (record { le = h.le })
+
+-- the larger of two words stands for the larger of their numbers
+pub number_max : {a b : ℤ} → SFits w32 a → SFits w32 b → number (int_max a b) ≡ number a ⊕ number b
+number_max {a} {b} f g = go (lt_z b a) refl
+  where
+    go : (t : Bool) → lt_z b a ≡ t → number (cond t a b) ≡ number a ⊕ number b
+    go true e = sym (⊕_comm _ _ ∙ ≼_⊕ (number_mono g f (omega zarith)))
+    go false e = sym (≼_⊕ (number_mono f g (omega zarith)))
 
 -- a word is the word of its number
 pub word_number : {z : ℤ} → SFits w32 z → word (number z) ≡ z
@@ -236,7 +251,7 @@ module _ (m x g : ℤ) (f : SFits w32 m) (p : Finite x) (q : Finite g)
   d_is = diff_of p q h k
 
   -- the new bound is the smaller one
-  pub under_new : x -ℤ g ⊑ m → cap_of (x -ℤ g) ≡ meet (cap_of m) (bound (number x) (number g))
+  under_new : x -ℤ g ⊑ m → cap_of (x -ℤ g) ≡ meet (cap_of m) (bound (number x) (number g))
   unfolding d
   under_new l = rw (p.is, q.is) (small (bounds d_is.fits) ∙ meet_new m (fin d) (bounds f) (λ e. less))
     where
@@ -251,7 +266,7 @@ module _ (m x g : ℤ) (f : SFits w32 m) (p : Finite x) (q : Finite g)
       small (some b c) = c ∙ ap cap d_is.is
 
   -- the old bound is the smaller one
-  pub under_old : m ⊑ x -ℤ g → cap_of m ≡ meet (cap_of m) (bound (number x) (number g))
+  under_old : m ⊑ x -ℤ g → cap_of m ≡ meet (cap_of m) (bound (number x) (number g))
   unfolding d
   under_old l = rw (p.is, q.is) (meet_old m (fin d) (some_of (bounds f)) more)
     where
@@ -264,6 +279,15 @@ module _ (m x g : ℤ) (f : SFits w32 m) (p : Finite x) (q : Finite g)
       some_of : Bounds m → cap_of m ≡ cap (number m)
       some_of (none e c) = absurd (omega (arith, ap hi e, ap lo e, near.0))
       some_of (some b c) = c
+
+  -- the smaller of the two
+  pub under_min : cap_of (int_min m (x -ℤ g)) ≡ meet (cap_of m) (bound (number x) (number g))
+  under_min = go (lt_z (x -ℤ g) m) refl
+    where
+      go : (t : Bool) → lt_z (x -ℤ g) m ≡ t
+          → cap_of (cond t (x -ℤ g) m) ≡ meet (cap_of m) (bound (number x) (number g))
+      go true e = under_new (omega zarith)
+      go false e = under_old (omega zarith)
 
 -- a bound of −∞ leaves no weight but −∞, whatever the others allow
 pub weigh_low : (z : ℤ) (p : Cap) (d : ℕ) (g x : Vec) → Marked z → meet p (cap_of z) ≡ allowed d g x

@@ -1,15 +1,12 @@
 -- Laws of a number's digits.
 use mathlib.Core.List.{List, [], ◌∷◌, ◌++◌}
-use mathlib.Core.Path.{◌≡◌, sym, ap, subst, ◌∙◌}
+use mathlib.Core.Path.{◌≡◌, sym, ap, ◌∙◌}
 use Prim.Native.Nat.{ℕ, zero, suc, ◌*◌, ◌/◌, ◌%◌, ◌≤◌, ◌<◌}
 use native.Mathlib.Decide.{dec_lt}
 use native.Mathlib.Omega.{arith}
 use borrow.Author.Tests.{lt-ltb, le-ltb}
 use lib.ListN.{length, length-append}
-use Rattle.codec.specs.Answers.{Writes, Room}
-use Rattle.codec.proofs.WriteLaws.{wrote_then, room_first, room_next}
 use Rattle.printing.specs.Text.{digit, digits, decimal}
-use Rattle.printing.proofs.WordText.{any_byte}
 
 -- one step, and more steps than n are enough
 pub last_digit : (k n : ℕ) → n < 10 → digits (suc k) n ≡ digit n ∷ []
@@ -47,33 +44,8 @@ more_digits n h =
     ∙ ap (λ (ds : List ℕ). ds ++ (digit (n % 10) ∷ []))
     (enough n (suc (n / 10)) (n / 10) (omega arith) (omega arith))
 
--- ---- a number that is written
-module _ {a : List ℕ} {at : ℕ} (v : ℕ) where
-  module _ (h : v < 10) where
-    -- room for a number is room for one byte
-    pub one_room : {x : ℕ} → Room at (decimal v) a → Room at (x ∷ []) a
-    one_room r = any_byte (subst (λ (ds : List ℕ). Room at ds a) (one_digit v h) r)
-
-    -- a number below 10 is written by its digit
-    pub one_wrote : {b : List ℕ} {end : ℕ} → Writes a at (digit v ∷ []) b end → Writes a at (decimal v) b end
-    one_wrote {b} {end} w = subst (λ (ds : List ℕ). Writes a at ds b end) (sym (one_digit v h)) w
-
-  module _ (h : 10 ≤ v) where
-    whole : Room at (decimal v) a → Room at (decimal (v / 10) ++ (digit (v % 10) ∷ [])) a
-    whole r = subst (λ (ds : List ℕ). Room at ds a) (more_digits v h) r
-
-    -- room for a number is room for its tenth
-    pub tenth_room : Room at (decimal v) a → Room at (decimal (v / 10)) a
-    tenth_room r = room_first (decimal (v / 10)) (digit (v % 10) ∷ []) (whole r)
-
-    module _ {b : List ℕ} {m : ℕ} (w : Writes a at (decimal (v / 10)) b m) where
-      -- and behind it for the last digit
-      pub last_room : {x : ℕ} → Room at (decimal v) a → Room m (x ∷ []) b
-      last_room r = any_byte (room_next (decimal (v / 10)) (digit (v % 10) ∷ []) w (whole r))
-
-      -- the tenth and the last digit are the number
-      pub last_wrote : {d : List ℕ} {end : ℕ} → Writes b m (digit (v % 10) ∷ []) d end → Writes a at (decimal v) d end
-      last_wrote {d} {end} u = subst (λ (ds : List ℕ). Writes a at ds d end) (sym (more_digits v h)) (wrote_then w u)
+-- a number by its last digit
+pub ruleset by_digits = (one_digit, more_digits)
 
 -- ---- how long a number is
 tenfold : (b k : ℕ) → 1 ≤ k → ((m : ℕ) → m < b → length (decimal m) ≤ k) → (n : ℕ) → n < 10 * b

@@ -1,106 +1,87 @@
-// The text of an answer, written into a lent area. Each function says where its bytes end.
+// The text of an answer, written into a lent area.
 #![tactic(auto)]
 
 ghost use Rattle.std.specs.Prelude.{◌∷◌, [], ◌++◌};
 ghost use Rattle.codec.specs.Answers.{Writes, Room};
+ghost use Rattle.codec.specs.Arrays.{each};
+ghost use Rattle.codec.specs.Writing.{HasRoom, Wrote};
 ghost use Rattle.runs.specs.Verdicts.{answer_by};
-ghost use Rattle.printing.specs.Text.{decimal, spaced, counts, head_of, line_of};
+ghost use Rattle.printing.specs.Text.{decimal, spaced, newline, head_of, line_of};
 
+use codec::Writer;
+use numbers::Refusal;
 use runs::Verdict;
 
-// One byte.
-fn byte(out: &mut [u8], at: usize, x: u8) -> usize
-    requires { Room at (x ∷ []) out.old }
-    ensures { Writes out.old at (x ∷ []) out.new result }
-{
-    out[at] = x;
-    at + 1
-}
-
-// A number in decimal.
-fn number(out: &mut [u8], at: usize, v: usize) -> usize
-    requires { Room at (decimal v) out.old }
-    ensures { Writes out.old at (decimal v) out.new result }
+// A number in decimal. By hand: `write!` says what it wrote only where it answers Ok, and not that it does.
+#[tactic(auto, using(codec::proofs::WriteLaws::stores, crate::proofs::NumberText::by_digits))]
+fn number(w: &mut Writer<'_>, v: usize)
+    requires { HasRoom w.old (decimal v) }
+    ensures { Wrote w.old (decimal v) w.new }
 {
     if v < 10 {
-        return byte(&mut *out, at, v as u8 + 48);
+        w.byte(b'0' + v as u8);
+    } else {
+        number(w, v / 10);
+        w.byte(b'0' + (v % 10) as u8);
     }
-    let end = number(&mut *out, at, v / 10);
-    byte(&mut *out, end, (v % 10) as u8 + 48)
 }
 
 // A space and a number.
-fn after_space(out: &mut [u8], at: usize, v: usize) -> usize
-    requires { Room at (spaced v) out.old }
-    ensures { Writes out.old at (spaced v) out.new result }
+#[tactic(auto, using(codec::proofs::WriteLaws::stores), unfolding(crate::specs::Text::spaced))]
+fn after_space(w: &mut Writer<'_>, v: usize)
+    requires { HasRoom w.old (spaced v) }
+    ensures { Wrote w.old (spaced v) w.new }
 {
-    let a = byte(&mut *out, at, b' ');
-    number(&mut *out, a, v)
+    w.byte(b' ');
+    number(w, v);
 }
 
-// The end of a first line: the counts.
-fn tally(out: &mut [u8], at: usize, kept: usize, tried: usize) -> usize
-    requires { Room at (counts kept tried) out.old }
-    ensures { Writes out.old at (counts kept tried) out.new result }
+// A word, numbers behind it, and the end of the line.
+#[tactic(auto, using(codec::proofs::WriteLaws::items))]
+fn row(w: &mut Writer<'_>, word: &[u8], numbers: &[usize])
+    requires { HasRoom w.old (word.now ++ (each spaced numbers.now ++ newline)) }
+    ensures { Wrote w.old (word.now ++ (each spaced numbers.now ++ newline)) w.new }
 {
-    let a = after_space(&mut *out, at, kept);
-    let b = after_space(&mut *out, a, tried);
-    byte(&mut *out, b, b'\n')
-}
-
-// A word at the start of the area.
-fn word(out: &mut [u8], bytes: &[u8]) -> usize
-    requires { Room 0 bytes.now out.old }
-    ensures { Writes out.old 0 bytes.now out.new result }
-{
-    let mut i = 0;
-    while i < bytes.len() {
-        out[i] = bytes[i];
-        i += 1;
+    w.bytes(word);
+    for v in numbers {
+        after_space(w, *v);
     }
-    i
+    w.byte(b'\n');
 }
 
-// A word at the start of the area, a number and the counts.
-fn counted(out: &mut [u8], bytes: &[u8], v: usize, kept: usize, tried: usize) -> usize
-    requires { Room 0 (bytes.now ++ (spaced v ++ counts kept tried)) out.old }
-    ensures { Writes out.old 0 (bytes.now ++ (spaced v ++ counts kept tried))
-        out.new result }
+// The first line of an answer.
+fn first(w: &mut Writer<'_>, answer: Result<Verdict, Refusal>)
+    requires { HasRoom w.old (head_of (answer_by answer)) }
+    ensures { Wrote w.old (head_of (answer_by answer)) w.new }
 {
-    let a = word(&mut *out, bytes);
-    let b = after_space(&mut *out, a, v);
-    tally(&mut *out, b, kept, tried)
-}
-
-// The first line of an answer, at the start of the area.
-pub fn head(out: &mut [u8], verdict: Verdict) -> usize
-    requires { Room 0 (head_of (answer_by verdict)) out.old }
-    ensures { Writes out.old 0 (head_of (answer_by verdict)) out.new result }
-{
-    match verdict {
-        Verdict::Reached { edges, kept, tried } => {
-            counted(&mut *out, b"REACHED", edges, kept, tried)
-        }
-        Verdict::Never { kept, tried } => {
-            let a = word(&mut *out, b"NEVER");
-            tally(&mut *out, a, kept, tried)
-        }
-        Verdict::Open { depth, kept, tried } => counted(&mut *out, b"OPEN", depth, kept, tried),
-        Verdict::Refused(e) => {
-            let a = word(&mut *out, b"REFUSED");
-            let b = after_space(&mut *out, a, e.number());
-            byte(&mut *out, b, b'\n')
-        }
+    match answer {
+        Ok(Verdict::Reached { edges, kept, tried }) => row(w, b"REACHED", &[edges, kept, tried]),
+        Ok(Verdict::Never { kept, tried }) => row(w, b"NEVER", &[kept, tried]),
+        Ok(Verdict::Open { depth, kept, tried }) => row(w, b"OPEN", &[depth, kept, tried]),
+        Err(e) => row(w, b"REFUSED", &[e.number()]),
     }
 }
 
-// The line of an edge and the location that it enters.
+// The first line of an answer, at the start of the area, and where it ends.
+pub fn head(out: &mut [u8], answer: Result<Verdict, Refusal>) -> usize
+    requires { Room 0 (head_of (answer_by answer)) out.old }
+    ensures { Writes out.old 0 (head_of (answer_by answer)) out.new result }
+{
+    let mut text = Writer { out, at: 0 };
+    first(&mut text, answer);
+    text.at
+}
+
+// The line of an edge and the location that it enters, from a place on, and where it ends.
+#[tactic(auto, using(codec::proofs::WriteLaws::stores), unfolding(crate::specs::Text::line_of))]
 pub fn line(out: &mut [u8], at: usize, edge: usize, location: usize) -> usize
     requires { Room at (line_of (record { edge = edge; location = location })) out.old }
     ensures { Writes out.old at (line_of (record { edge = edge; location = location }))
         out.new result }
 {
-    let a = number(&mut *out, at, edge);
-    let end = after_space(&mut *out, a, location);
-    byte(&mut *out, end, b'\n')
+    let mut text = Writer { out, at };
+    number(&mut text, edge);
+    after_space(&mut text, location);
+    text.byte(b'\n');
+    text.at
 }

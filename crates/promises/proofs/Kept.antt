@@ -1,3 +1,4 @@
+use Rattle.std.proofs.Common.{Err, Ok}
 -- Every promise is kept.
 use mathlib.Core.List.{List}
 use mathlib.Core.Path.{◌≡◌, refl, sym, ap, ◌∙◌, subst}
@@ -12,13 +13,12 @@ use Rattle.algebra.specs.Sets.{Set}
 use Rattle.algebra.proofs.CanonicalLists.{unique}
 use Rattle.sets.specs.Demands.{Input, Good}
 use Rattle.sets.proofs.Asking.{contains_settled, included_settled}
-use Rattle.making.specs.declared.Made.TheVariants.{Vectors}
 use Rattle.making.specs.Answers.{Makes}
 use Rattle.making.proofs.Settled.{makes_settled}
 use Rattle.runs.specs.Models.{System}
 use Rattle.runs.specs.Verdicts.{SaysNever}
-use Rattle.runs.specs.declared.Verdict.{Verdict}
-use Rattle.runs.specs.declared.Verdict.TheVariants.{Reached, Never, Open, Refused}
+use Rattle.runs.specs.Verdicts.{Judged}
+use Rattle.runs.specs.declared.Verdict.TheVariants.{Reached, Never, Open}
 use Rattle.runs.proofs.Covering.{closed_never}
 use Rattle.runs.proofs.ProperLists.{words_long}
 use Rattle.model.specs.declared.Model.{Model}
@@ -41,7 +41,7 @@ use Rattle.promises.specs.Promises.{NoRun, TextMeans, Certain, Stable, Counted, 
 equal_sets_lem : EqualSets
 equal_sets_lem c d n A B before before' k k' after after' p q h = (many, front p ∙ (ap words same ∙ sym (front' q)))
   where
-    good : (e : Input) {S : Set} {start last : List ℤ} {j : ℕ} → Makes e n S start (Vectors j) last → Good e
+    good : (e : Input) {S : Set} {start last : List ℤ} {j : ℕ} → Makes e n S start (Ok j) last → Good e
     good e m = (m.outcome.met Shape (omega arith), m.outcome.met Entry (omega arith), m.outcome.met Arg (omega arith))
 
     same : p.R ≡ q.R
@@ -53,17 +53,17 @@ equal_sets_lem c d n A B before before' k k' after after' p q h = (many, front p
     many : k ≡ k'
     many = p.outcome.count ∙ (ap (λ (R : List Vector). length R) same ∙ sym q.outcome.count)
 
-    start : (e : Input) {S : Set} {from last : List ℤ} {j : ℕ} (m : Makes e n S from (Vectors j) last)
+    start : (e : Input) {S : Set} {from last : List ℤ} {j : ℕ} (m : Makes e n S from (Ok j) last)
         → take (j * suc n) last ≡ words m.R
     start e {from = from} {j = j} m =
         ap (take (j * suc n)) m.outcome.area
         ∙ take_at (words m.R) (drop (length (words m.R)) from) (j * suc n)
         (words_long n m.R (m.canonical (good e m)).long ∙ ap (λ (i : ℕ). i * suc n) (sym m.outcome.count))
 
-    front : (m : Makes c n A before (Vectors k) after) → take (k * suc n) after ≡ words m.R
+    front : (m : Makes c n A before (Ok k) after) → take (k * suc n) after ≡ words m.R
     front m = start c m
 
-    front' : (m : Makes d n B before' (Vectors k') after') → take (k * suc n) after' ≡ words m.R
+    front' : (m : Makes d n B before' (Ok k') after') → take (k * suc n) after' ≡ words m.R
     front' m = ap (λ (i : ℕ). take (i * suc n) after') many ∙ start d m
 
 -- ---- bytes
@@ -88,7 +88,7 @@ written_back m before after k w = ap read_of (written_start m before after k w) 
     limits (wrote l h a e) = l
 
 -- the first bytes of an input
-walked_first : (input : List ℕ) (k : ℕ) → 33665 ≤ k → (before : List ℤ) (v : Verdict) (after : List ℤ)
+walked_first : (input : List ℕ) (k : ℕ) → 33665 ≤ k → (before : List ℤ) (v : Judged) (after : List ℤ)
     → Walks (take k input) before v after → Walks input before v after
 walked_first s k h before v after w = record {
   rule = w.rule ∙ walks.walk_first s k before h;
@@ -141,21 +141,21 @@ program_means_lem buffer n text r text' p input b =
 program_room_lem : ProgramRoom
 program_room_lem n h = room_full n h (replicate 14592 (pos 0)) (omega (arith, length-replicate 14592 (pos 0)))
 
-certain : (v : Verdict) → Certain v → walks.Certain v
-certain (Reached d k t) c = c
-certain (Never k t) c = c
-certain (Open d k t) c = c
-certain (Refused e) c = c
+certain : (v : Judged) → Certain v → walks.Certain v
+certain (Ok (Reached d k t)) c = c
+certain (Ok (Never k t)) c = c
+certain (Ok (Open d k t)) c = c
+certain (Err e) c = c
 
 stable : Stable
 stable s s' m depth are are' e e' d before before' r v v' after after' w w' c =
     walks.walk_stable s s' m depth are are' e e' d before before' r v v' after after' w w' (certain v c)
 
 counted : Counted
-counted s m are e before (Reached d k t) after w = walks.walk_counts s m are e before (Reached d k t) after w
-counted s m are e before (Never k t) after w = walks.walk_counts s m are e before (Never k t) after w
-counted s m are e before (Open d k t) after w = walks.walk_counts s m are e before (Open d k t) after w
-counted s m are e before (Refused x) after w = omega arith
+counted s m are e before (Ok (Reached d k t)) after w = walks.walk_counts s m are e before (Ok (Reached d k t)) after w
+counted s m are e before (Ok (Never k t)) after w = walks.walk_counts s m are e before (Ok (Never k t)) after w
+counted s m are e before (Ok (Open d k t)) after w = walks.walk_counts s m are e before (Ok (Open d k t)) after w
+counted s m are e before (Err x) after w = omega arith
 
 closed_means_lem : ClosedMeans
 closed_means_lem S m location list c = no_run (closed_never S m location list c)

@@ -1,18 +1,17 @@
 -- The three demands: each promise a type over contracts and runs, and one record that has all of them.
-use Rattle.std.specs.Prelude.{List, [], ◌++◌, map, ◌↔◌, ◌≡◌, ℕ, suc, ◌*◌, ◌≤◌, ◌<◌, ℤ, pos, length, take, replicate}
+use Rattle.std.specs.Prelude.{List, [], ◌++◌, map, ◌↔◌, ◌≡◌, ℕ, suc, ◌*◌, ◌≤◌, ◌<◌, ℤ, pos, length, take, replicate, Err, Ok}
 use Rattle.algebra.specs.Vectors.{Vector}
 use Rattle.algebra.specs.Sets.{Set}
 use Rattle.sets.specs.Calls.{Contains, IsIncluded}
 use Rattle.sets.specs.Demands.{Input}
-use Rattle.making.specs.declared.Made.TheVariants.{Vectors}
 use Rattle.making.specs.Answers.{Makes}
 use Rattle.codec.specs.Arrays.{AreBytes, All}
 use Rattle.runs.specs.Models.{System, edge}
 use Rattle.runs.specs.Runs.{Reaches}
 use Rattle.runs.specs.Closure.{Closed}
 use Rattle.runs.specs.Verdicts.{reached, open_to, answer_by}
-use Rattle.runs.specs.declared.Verdict.{Verdict}
-use Rattle.runs.specs.declared.Verdict.TheVariants.{Reached, Never, Open, Refused}
+use Rattle.runs.specs.Verdicts.{Judged}
+use Rattle.runs.specs.declared.Verdict.TheVariants.{Reached, Never, Open}
 use Rattle.model.specs.declared.Model.{Model}
 use Rattle.model.specs.Answers.{value, read_of, ReadsModel, WritesModel, written_said}
 use Rattle.model.specs.Limits.{ModelLimits}
@@ -40,7 +39,7 @@ pub record AnswersSettled : Type 1 where
   pub contains : (n : ℕ) (list point : List ℤ) → Settles (Contains n list point)
   pub included : (n : ℕ) (inner outer : List ℤ) → Settles (IsIncluded n inner outer)
   pub makes : (c : Input) (n : ℕ) (wanted : Set) (before : List ℤ) → SettlesBoth (Makes c n wanted before)
-  pub read : (bytes : List ℕ) → SettlesBoth (ReadsModel bytes)
+  pub read : (bytes : List ℕ) → Settles (ReadsModel bytes)
   pub write : (m : Model) (before : List ℕ) → SettlesBoth (λ answer after. WritesModel m before after (written_said answer))
   pub walk : (bytes : List ℕ) (before : List ℤ) → SettlesBoth (Walks bytes before)
   pub answer : (bytes : List ℕ) (area : List ℤ) (text : List ℕ) (r q : ℕ) (after last : List ℤ) (text' text'' : List ℕ)
@@ -52,7 +51,7 @@ pub record AnswersSettled : Type 1 where
 -- two making calls whose wanted sets are equal give equal lists
 abbrev pub EqualSets : Type 1
 EqualSets = (c d : Input) (n : ℕ) (A B : Set) (before before' : List ℤ) (k k' : ℕ) (after after' : List ℤ)
-    → Makes c n A before (Vectors k) after → Makes d n B before' (Vectors k') after' → ((x : Vector) → A x ↔ B x)
+    → Makes c n A before (Ok k) after → Makes d n B before' (Ok k') after' → ((x : Vector) → A x ↔ B x)
     → (k ≡ k') × (take (k * suc n) after ≡ take (k * suc n) after')
 
 -- bytes that are read and written are the same bytes
@@ -72,7 +71,7 @@ ModelSize = (m : Model) → ModelLimits m → length (model_bytes m) ≤ 33664
 -- the first 33,665 bytes of an input, or any more, are read, walked and answered as all of it
 pub record FirstBytes : Type 0 where
   pub read : (input : List ℕ) (k : ℕ) → 33665 ≤ k → read_of (take k input) ≡ read_of input
-  pub walk : (input : List ℕ) (k : ℕ) → 33665 ≤ k → (before : List ℤ) (v : Verdict) (after : List ℤ)
+  pub walk : (input : List ℕ) (k : ℕ) → 33665 ≤ k → (before : List ℤ) (v : Judged) (after : List ℤ)
       → Walks (take k input) before v after → Walks input before v after
   pub answer : (input : List ℕ) (k : ℕ) → 33665 ≤ k → (area : List ℤ) (text : List ℕ) (r : ℕ) (area' : List ℤ)
       (text' : List ℕ) → Prints (take k input) area text r area' text' → Prints input area text r area' text'
@@ -115,39 +114,39 @@ abbrev pub ProgramRoom : Type 0
 ProgramRoom = (n : ℕ) → n ≤ 6 → room_of n (replicate 14592 (pos 0)) ≡ 64
 
 -- REACHED or NEVER
-abbrev pub Certain : Verdict → Type 0
-Certain (Reached d k t) = Unit {0}
-Certain (Never k t) = Unit {0}
-Certain (Open d k t) = ⊥
-Certain (Refused e) = ⊥
+abbrev pub Certain : Judged → Type 0
+Certain (Ok (Reached d k t)) = Unit {0}
+Certain (Ok (Never k t)) = Unit {0}
+Certain (Ok (Open d k t)) = ⊥
+Certain (Err e) = ⊥
 
 -- a REACHED or NEVER stays, with its counts and its edges, at more depth and more room
 abbrev pub Stable : Type 0
 Stable = (bytes bytes' : List ℕ) (m : Model) (depth : ℕ) → AreBytes bytes → AreBytes bytes'
     → read_of bytes ≡ value m → read_of bytes' ≡ value (with_depth m depth) → m.depth ≤ depth
     → (before before' : List ℤ) → room_of m.clocks before ≤ room_of m.clocks before'
-    → (v v' : Verdict) (after after' : List ℤ) → Walks bytes before v after → Walks bytes' before' v' after' → Certain v
+    → (v v' : Judged) (after after' : List ℤ) → Walks bytes before v after → Walks bytes' before' v' after' → Certain v
     → (v' ≡ v)
     × (path_in m.clocks after' (kept_said (answer_by v')) ≡ path_in m.clocks after (kept_said (answer_by v)))
 
 -- how many candidates a verdict says were formed
-abbrev pub tried_of : Verdict → ℕ
-tried_of (Reached d k t) = t
-tried_of (Never k t) = t
-tried_of (Open d k t) = t
-tried_of (Refused e) = 0
+abbrev pub tried_of : Judged → ℕ
+tried_of (Ok (Reached d k t)) = t
+tried_of (Ok (Never k t)) = t
+tried_of (Ok (Open d k t)) = t
+tried_of (Err e) = 0
 
 -- tried is at most kept times the edges
 abbrev pub Counted : Type 0
 Counted = (bytes : List ℕ) (m : Model) → AreBytes bytes → read_of bytes ≡ value m
-    → (before : List ℤ) (v : Verdict) (after : List ℤ) → Walks bytes before v after
+    → (before : List ℤ) (v : Judged) (after : List ℤ) → Walks bytes before v after
     → tried_of v ≤ kept_said (answer_by v) * m.edges
 
 -- the states that a NEVER leaves in the area are closed: the start is in them, no candidate leaves them, none meets the
 -- target
 abbrev pub NeverClosed : Type 0
 NeverClosed = (bytes : List ℕ) (m : Model) → AreBytes bytes → read_of bytes ≡ value m
-    → (before : List ℤ) (kept tried : ℕ) (after : List ℤ) → Walks bytes before (Never kept tried) after
+    → (before : List ℤ) (kept tried : ℕ) (after : List ℤ) → Walks bytes before (Ok (Never kept tried)) after
     → Closed (plain m).system kept (λ i. (state_in m.clocks after i).location) (λ i. (state_in m.clocks after i).list)
 
 -- lists that are closed, whoever made them, show that no run reaches the target

@@ -1,4 +1,5 @@
 -- The steps of the walk are the calls: on good input each call gives the step's list or its refusal.
+use Rattle.std.proofs.Common.{Err, Ok}
 use mathlib.Core.Bool.{Bool, true, false, cond}
 use mathlib.Core.List.{List, ◌++◌}
 use mathlib.Core.Path.{◌≡◌, refl, sym, ◌∙◌, ap}
@@ -14,10 +15,8 @@ use Rattle.algebra.specs.Vectors.{Vector, vectors, words}
 use Rattle.algebra.specs.Wanted.{left, right}
 use Rattle.algebra.specs.Working.{intersect_list, delay_list, reset_list}
 use Rattle.sets.specs.Limits.{Clocks, Whole}
-use Rattle.sets.specs.declared.Checked.TheVariants.{Good}
 use Rattle.sets.specs.Demands.{Good as GoodInput}
 use Rattle.sets.proofs.TestLaws.{tells_clocks, tells_whole, tells_words, tells_list}
-use Rattle.making.specs.declared.Made.TheVariants.{Vectors, Refused}
 use Rattle.making.specs.Limits.{Roomy}
 use Rattle.making.specs.Calls.{intersect_input, delay_input, reset_input}
 use Rattle.making.specs.Clean.{canonical_of}
@@ -41,12 +40,12 @@ finished_shown n L area = by (range_ok n R) (leb (length R) 32)
     R = canonical_of n L
 
     full : Result
-    full = record { made = Vectors (length R); area = words R ++ drop (length (words R)) area }
+    full = record { made = Ok (length R); area = words R ++ drop (length (words R)) area }
 
     by : (a b : Bool)
-        → cond a (cond b full (refused_by (Refused Gens) area)) (refused_by (Refused Range) area)
+        → cond a (cond b full (refused_by (Err Gens) area)) (refused_by (Err Range) area)
         ≡ shown n area (cond a (cond b (made (words R)) (stop Gens)) (stop Range))
-    by true true = ap (λ k. record { made = Vectors k; area = words R ++ drop (length (words R)) area })
+    by true true = ap (λ k. record { made = Ok k; area = words R ++ drop (length (words R)) area })
         (sym (words_count n R (canonical_made n L).long))
     by true false = refl
     by false b = refl
@@ -57,7 +56,7 @@ unfolding shape_ok
 shape_ok_lem n l area a b c =
     rw (passes (tells_clocks n) a, passes (tells_whole n l) b, passes (tells_leb (32 * suc n) (length area)) c)
 
-cut_checked : (n : ℕ) (l h area : List ℤ) → GoodInput (intersect_input n l h area) → intersect_checked n l h area ≡ Good
+cut_checked : (n : ℕ) (l h area : List ℤ) → GoodInput (intersect_input n l h area) → intersect_checked n l h area ≡ Ok tt
 unfolding intersect_checked
 cut_checked n l h area ((a, b, c, d), (e, f), g) =
     rw (
@@ -67,12 +66,12 @@ cut_checked n l h area ((a, b, c, d), (e, f), g) =
       passes (tells_words true (2 * suc n) h) f,
     )
 
-delay_checked_lem : (n : ℕ) (l area : List ℤ) → GoodInput (delay_input n l area) → delay_checked n l area ≡ Good
+delay_checked_lem : (n : ℕ) (l area : List ℤ) → GoodInput (delay_input n l area) → delay_checked n l area ≡ Ok tt
 unfolding delay_checked
 delay_checked_lem n l area ((a, b, c), e, g) = rw (shape_ok_lem n l area a b c, passes (tells_list n l) e)
 
 reset_checked_lem : (n : ℕ) (l : List ℤ) (i : ℕ) (area : List ℤ) → GoodInput (reset_input n l i (pos 0) area)
-    → reset_checked n l i (pos 0) area ≡ Good
+    → reset_checked n l i (pos 0) area ≡ Ok tt
 unfolding reset_checked number
 reset_checked_lem n l i area (s, e, g) = rw (delay_checked_lem n l area (s, e, tt), by (ltb i n) (lt→ltb i n g.clock))
   where

@@ -1,4 +1,5 @@
 -- What each step of the walk does to a set of clock values.
+use Rattle.std.proofs.Common.{Err, Ok, false}
 use mathlib.Core.Bool.{true}
 use mathlib.Core.List.{List, [], ◌∷◌, map}
 use mathlib.Core.Logic.{◌↔◌}
@@ -17,8 +18,7 @@ use Rattle.algebra.specs.Sets.{In, set_of, Included}
 use Rattle.algebra.specs.Wanted.{left, right, Intersected, Delayed, Reset}
 use Rattle.algebra.specs.Working.{intersect_list, delay_list, reset_list}
 use Rattle.sets.specs.Calls.{included_input}
-use Rattle.sets.specs.declared.Told.{Told}
-use Rattle.sets.specs.declared.Told.TheVariants.{Yes, No, Refused}
+use Rattle.sets.specs.Types.{Told}
 use Rattle.sets.specs.Answers.{Asks, said_by}
 use Rattle.sets.specs.Rules.{included_of}
 use Rattle.sets.proofs.Membership.{kinds}
@@ -194,6 +194,6 @@ included_yes n inner outer e = by (included_of n inner outer) e (included_meets 
     by : (a : Told) → is_yes a ≡ true
         → Asks (included_input n inner outer) (Included (set_of n inner) (set_of n outer)) (said_by a)
         → Included (set_of n inner) (set_of n outer)
-    by Yes e h = h.1
-    by No e h = absurd (clash (sym e))
-    by (Refused f) e h = absurd (clash (sym e))
+    by (Ok true) e h = h.1
+    by (Ok false) e h = absurd (clash (sym e))
+    by (Err f) e h = absurd (clash (sym e))

@@ -1,13 +1,12 @@
 -- The walk: entering, candidates, layers, kept, tried, verdict and path, over lists of words.
-use Rattle.std.specs.Prelude.{Bool, true, false, ◌&&◌, ◌||◌, cond, List, [], ◌∷◌, ◌++◌, ℕ, zero, suc, ◌-◌, eqb, ltb, leb, ℤ, pos, negsuc, length, get_or, replicate}
+use Rattle.std.specs.Prelude.{Bool, true, false, ◌&&◌, ◌||◌, cond, List, [], ◌∷◌, ◌++◌, ℕ, zero, suc, ◌-◌, eqb, ltb, leb, ℤ, pos, negsuc, length, get_or, replicate, Err, Ok}
 use Rattle.numbers.specs.Refusals.{refusal_number}
 use Rattle.numbers.specs.declared.Refusal.{Refusal}
 use Rattle.numbers.specs.declared.Refusal.TheVariants.{Range, Gens, Room}
 use Rattle.algebra.specs.Vectors.{Vector, vectors, words}
 use Rattle.algebra.specs.Wanted.{left, right}
 use Rattle.algebra.specs.Working.{intersect_list, delay_list, reset_list}
-use Rattle.sets.specs.declared.Told.{Told}
-use Rattle.sets.specs.declared.Told.TheVariants.{Yes, No, Refused}
+use Rattle.sets.specs.Types.{Told}
 use Rattle.sets.specs.Rules.{included_of}
 use Rattle.making.specs.Clean.{canonical_of}
 use Rattle.making.specs.Rules.{range_ok}
@@ -45,9 +44,8 @@ is_empty (z ∷ l) = false
 
 -- a yes
 abbrev pub is_yes : Told → Bool
-is_yes Yes = true
-is_yes No = false
-is_yes (Refused e) = false
+is_yes (Ok b) = b
+is_yes (Err e) = false
 
 -- one set is included in another
 unfoldable pub included : ℕ → List ℤ → List ℤ → Bool

@@ -1,4 +1,5 @@
 -- The answers of the calls that ask: the rule meets each contract, and each contract settles its answer.
+use Rattle.std.proofs.Common.{Err, Ok}
 use mathlib.Core.Bool.{Bool, true, false, ◌&&◌, cond}
 use mathlib.Core.List.{List, map}
 use mathlib.Core.Path.{◌≡◌, refl, sym, ap, subst}
@@ -14,18 +15,13 @@ use Rattle.numbers.specs.declared.Refusal.TheVariants.{Shape, Entry, Arg, Range,
 use Rattle.numbers.proofs.RefusalLaws.{number_inj, number_range}
 use Rattle.numbers.proofs.Tells.{Tells, means, both, tells_eqb}
 use Rattle.algebra.specs.Sets.{set_of, Included}
-use Rattle.sets.specs.declared.Told.{Told}
-use Rattle.sets.specs.declared.Told.TheVariants.{Yes, No, Refused}
-use denote.Enum.Declared.{tag_of}
-use Rattle.sets.specs.contracts.Checked.{the_type}
-use Rattle.sets.specs.declared.Checked.{Checked}
-use Rattle.sets.specs.declared.Checked.TheVariants.{Good, Refused as CheckedRefused}
+use Rattle.sets.specs.Types.{Told}
 use Rattle.sets.specs.Limits.{Clocks, Whole}
 use Rattle.sets.specs.Demands.{Demands, Refuses, Input, Good as GoodInput, asking}
 use Rattle.sets.specs.Answers.{said_by, Asks}
 use Rattle.sets.specs.Calls.{contains_input, Contains, included_input, IsIncluded}
 use Rattle.sets.specs.Tests.{clocks_ok, whole_ok, list_ok, words_ok}
-use Rattle.sets.specs.Rules.{checked, tell_after, why_of, inside, has_point, covered}
+use Rattle.sets.specs.Rules.{checked, tell_after, inside, has_point, covered}
 use Rattle.sets.specs.Rules.{contains_checked, contains_of, included_checked, included_of}
 use Rattle.sets.proofs.TestLaws.{tells_clocks, tells_whole, tells_words, tells_list}
 use Rattle.sets.proofs.Membership.{tells_inside, tells_included}
@@ -51,16 +47,16 @@ all_met c g Model = tt
 -- two answers that a contract allows are equal
 pub asks_settled : (c : Input) (question : Type 0) (a b : Told)
     → Asks c question (said_by a) → Asks c question (said_by b) → a ≡ b
-asks_settled c question Yes Yes p q = refl
-asks_settled c question Yes No p q = absurd (q.1 p.1)
-asks_settled c question Yes (Refused e) p q = absurd (q.broken (all_met c p.0 q.why))
-asks_settled c question No Yes p q = absurd (p.1 q.1)
-asks_settled c question No No p q = refl
-asks_settled c question No (Refused e) p q = absurd (q.broken (all_met c p.0 q.why))
-asks_settled c question (Refused e) Yes p q = absurd (p.broken (all_met c q.0 p.why))
-asks_settled c question (Refused e) No p q = absurd (p.broken (all_met c q.0 p.why))
-asks_settled c question (Refused e) (Refused f) p q =
-    ap Refused (number_inj e f (one_refusal (asking c) (refusal_number e) (refusal_number f) p q))
+asks_settled c question (Ok true) (Ok true) p q = refl
+asks_settled c question (Ok true) (Ok false) p q = absurd (q.1 p.1)
+asks_settled c question (Ok true) (Err e) p q = absurd (q.broken (all_met c p.0 q.why))
+asks_settled c question (Ok false) (Ok true) p q = absurd (p.1 q.1)
+asks_settled c question (Ok false) (Ok false) p q = refl
+asks_settled c question (Ok false) (Err e) p q = absurd (q.broken (all_met c p.0 q.why))
+asks_settled c question (Err e) (Ok true) p q = absurd (p.broken (all_met c q.0 p.why))
+asks_settled c question (Err e) (Ok false) p q = absurd (p.broken (all_met c q.0 p.why))
+asks_settled c question (Err e) (Err f) p q =
+    ap Err (number_inj e f (one_refusal (asking c) (refusal_number e) (refusal_number f) p q))
 
 -- ---- the rule meets the contract
 -- SHAPE is the first demand, ENTRY the second
@@ -134,13 +130,8 @@ pub included_settled : (n : ℕ) (inner outer : List ℤ) (a b : Told)
 included_settled n inner outer = asks_settled (included_input n inner outer) (Included (set_of n inner) (set_of n outer))
 
 -- ---- the code's way to the answer
--- the refusal of input that is not good is passed up
-pub passed_up : (k : Checked) (answer : Bool) → tag_of the_type k ≡ 1 → Refused (why_of k) ≡ tell_after k answer
-passed_up Good answer e = absurd (omega arith)
-passed_up (CheckedRefused r) answer e = refl
-
 -- tests that all passed
-all_passed : (shape limits : Bool) → checked shape limits ≡ Good → (shape ≡ true) × (limits ≡ true)
+all_passed : (shape limits : Bool) → checked shape limits ≡ (Ok tt) → (shape ≡ true) × (limits ≡ true)
 all_passed false limits e = absurd (let z : ◌≡◌ {A = ℕ} 0 1 = cc in omega arith)
 all_passed true false e = absurd (let z : ◌≡◌ {A = ℕ} 0 1 = cc in omega arith)
 all_passed true true e = (refl, refl)
@@ -154,7 +145,7 @@ pub included_as : (n : ℕ) (inner outer : List ℤ) {r : Told} → r ≡ includ
 included_as n inner outer e = subst (IsIncluded n inner outer) (sym e) (included_meets n inner outer)
 
 -- input that was checked is good
-pub contains_good : (n : ℕ) (l p : List ℤ) → contains_checked n l p ≡ Good → GoodInput (contains_input n l p)
+pub contains_good : (n : ℕ) (l p : List ℤ) → contains_checked n l p ≡ (Ok tt) → GoodInput (contains_input n l p)
 unfolding contains_checked
 contains_good n l p e = (
   (contains_shape n l p).yes b.0,
@@ -166,7 +157,7 @@ contains_good n l p e = (
     b = all_passed _ _ e
 
 -- so it is for `included`
-pub included_good : (n : ℕ) (inner outer : List ℤ) → included_checked n inner outer ≡ Good
+pub included_good : (n : ℕ) (inner outer : List ℤ) → included_checked n inner outer ≡ (Ok tt)
     → GoodInput (included_input n inner outer)
 unfolding included_checked
 included_good n inner outer e = (

@@ -175,12 +175,6 @@ unfolding generated
 generated_as l m x w X e q = ap (λ d. attained d m (flat d l) (entries x)) e
     ∙ attained_ext w m (flat w l) (flat w l) (entries x) X (λ i j b c. refl) q
 
--- `covered` with the number of words to a vector as the code has it
-pub covered_by : (n : ℕ) (inner outer : List ℤ) → every (length inner / (n + 1))
-    (λ i. attained (n + 1) (length outer / (n + 1)) (flat (n + 1) outer) (flat (n + 1) inner i)) ≡ covered n inner outer
-unfolding covered covers
-covered_by n inner outer = rw (add-one n)
-
 -- ---- a tested point p in words, with 0 behind it
 module _ (n : ℕ) (p words : List ℤ) (e : length p ≡ n) (h : n ≤ 6) (v : Ended p (pos 0) words) where
   -- it has n + 1 words

@@ -2,7 +2,7 @@
 use Rattle.std.specs.Prelude.{List, map, ◌≡◌, ℕ, ℤ, length}
 use Rattle.numbers.specs.Words.{number}
 use Rattle.algebra.specs.Sets.{set_of, Included}
-use Rattle.sets.specs.declared.Told.{Told}
+use Rattle.sets.specs.Types.{Told}
 use Rattle.sets.specs.Limits.{Clocks, Whole, ListLimits, TestedLimits}
 use Rattle.sets.specs.Demands.{Input}
 use Rattle.sets.specs.Answers.{said_by, Asks}

@@ -1,3 +1,4 @@
+pub mod Types
 pub mod Limits
 pub mod Demands
 pub mod Answers

@@ -1,17 +1,13 @@
 -- The rule by which each asking call finds its answer, as executable definitions over lists of words.
-use Rattle.std.specs.Prelude.{Bool, true, false, ◌&&◌, cond, List, [], ◌∷◌, ◌++◌, ℕ, suc, ◌+◌, ◌*◌, eqb, ℤ, pos, length, get_or}
+use Rattle.std.specs.Prelude.{Bool, true, false, ◌&&◌, cond, List, [], ◌∷◌, ◌++◌, ℕ, suc, ◌+◌, ◌*◌, eqb, ℤ, pos, length, get_or, Err, Ok}
 use Rattle.numbers.specs.Numbers.{at_most}
 use Rattle.numbers.specs.Words.{number}
 use Rattle.numbers.specs.Places.{Vec, entries}
 use Rattle.numbers.specs.Tests.{every, some}
-use Rattle.numbers.specs.declared.Refusal.{Refusal}
 use Rattle.numbers.specs.declared.Refusal.TheVariants.{Shape, Entry}
 use Rattle.algebra.specs.Vectors.{count}
 use Rattle.algebra.specs.Reach.{reach}
-use Rattle.sets.specs.declared.Told.{Told}
-use Rattle.sets.specs.declared.Told.TheVariants.{Yes, No, Refused}
-use Rattle.sets.specs.declared.Checked.{Checked}
-use Rattle.sets.specs.declared.Checked.TheVariants.{Good, Refused as CheckedRefused}
+use Rattle.sets.specs.Types.{Told, Checked}
 use Rattle.sets.specs.Tests.{clocks_ok, whole_ok, list_ok, words_ok, finite}
 
 -- entry j of vector i of a list of words, w words to a vector
@@ -44,24 +40,14 @@ covered n inner outer = every (count n inner) (covers n inner outer)
 
 -- the first refusal of two tests in order
 abbrev pub checked : Bool → Bool → Checked
-checked false limits = CheckedRefused Shape
-checked true false = CheckedRefused Entry
-checked true true = Good
-
--- the refusal of input that is not good
-abbrev pub why_of : Checked → Refusal
-why_of Good = Shape
-why_of (CheckedRefused e) = e
-
--- the answer of a test on good input
-abbrev pub tell : Bool → Told
-tell true = Yes
-tell false = No
+checked false limits = Err Shape
+checked true false = Err Entry
+checked true true = Ok tt
 
 -- the answer after the checks
 abbrev pub tell_after : Checked → Bool → Told
-tell_after Good answer = tell answer
-tell_after (CheckedRefused e) answer = Refused e
+tell_after (Ok u) answer = Ok answer
+tell_after (Err e) answer = Err e
 
 -- ---- contains
 -- its checks, in order

@@ -1,5 +1,5 @@
 // Whether words are within their limits.
-ghost use Rattle.std.specs.Prelude.{◌≡◌, ◌*◌, ◌≤◌, ◌<◌, length};
+ghost use Rattle.std.specs.Prelude.{◌≡◌, ◌≤◌, ◌<◌, length};
 ghost use Rattle.numbers.specs.Words.{number};
 ghost use Rattle.sets.specs.Tests.{fits, words_ok, some_finite, vector_ok, list_ok};
 ghost use Rattle.sets.specs.Rules.{has_point};
@@ -7,22 +7,15 @@ ghost use Rattle.sets.specs.Rules.{has_point};
 use numbers::Vector;
 
 // Whether a word is within the limits of a ray's clocks, or of a point's.
+#[tactic(auto, unfolding(numbers::specs::Words::number))]
 pub fn word_fits(x: i32, ray: bool) -> bool
     ensures { result ≡ fits ray (number x) }
 {
     if ray {
-        if x == Vector::MARK {
-            return true;
-        }
-        if x < Vector::LEAST_RAY {
-            return false;
-        }
-        return x <= Vector::MOST;
+        x == Vector::MARK || (Vector::LEAST_RAY..=Vector::MOST).contains(&x)
+    } else {
+        (Vector::LEAST_POINT..=Vector::MOST).contains(&x)
     }
-    if x < Vector::LEAST_POINT {
-        return false;
-    }
-    x <= Vector::MOST
 }
 
 // Whether each of the first n words is.
@@ -30,14 +23,7 @@ pub fn words_fit(words: &[i32], n: usize, ray: bool) -> bool
     requires { n ≤ length words.now }
     ensures { result ≡ words_ok ray n words.now }
 {
-    let mut j = 0;
-    while j < n {
-        if !word_fits(words[j], ray) {
-            return false;
-        }
-        j += 1;
-    }
-    true
+    words[..n].iter().all(|x| word_fits(*x, ray))
 }
 
 // Whether one of the first n words is not −∞.
@@ -45,33 +31,20 @@ fn some_finite(words: &[i32], n: usize) -> bool
     requires { n ≤ length words.now }
     ensures { result ≡ some_finite n words.now }
 {
-    let mut j = 0;
-    while j < n {
-        let x = words[j];
-        if x != Vector::MARK {
-            return true;
-        }
-        j += 1;
-    }
-    false
+    words[..n].iter().any(|x| *x != Vector::MARK)
 }
 
 // Whether a vector of n + 1 words is a point or a ray within its limits.
+#[tactic(auto, unfolding(crate::specs::Tests::vector_ok, numbers::specs::Words::number))]
 fn vector_fits(vector: &[i32], n: usize) -> bool
     requires { n < length vector.now }
     ensures { result ≡ vector_ok n vector.now }
 {
-    let last = vector[n];
-    if last == 0 {
-        return words_fit(vector, n, false);
+    match vector[n] {
+        0 => words_fit(vector, n, false),
+        Vector::MARK => words_fit(vector, n, true) && some_finite(vector, n),
+        _ => false,
     }
-    if last != Vector::MARK {
-        return false;
-    }
-    if !words_fit(vector, n, true) {
-        return false;
-    }
-    some_finite(vector, n)
 }
 
 // Whether each vector of the list is a point or a ray within its limits.
@@ -79,17 +52,8 @@ pub fn list_fits(n: usize, list: &[i32]) -> bool
     requires { n ≤ 6 }
     ensures { result ≡ list_ok n list.now }
 {
-    let w = n + 1;
-    let m = list.len() / w;
-    let mut i = 0;
-    while i < m {
-        let at = i * w;
-        if !vector_fits(&list[at..at + w], n) {
-            return false;
-        }
-        i += 1;
-    }
-    true
+    list.chunks_exact(n + 1)
+        .all(|vector| vector_fits(vector, n))
 }
 
 // Whether some vector of the list is a point.
@@ -97,15 +61,6 @@ pub fn has_point(n: usize, list: &[i32]) -> bool
     requires { n ≤ 6 }
     ensures { result ≡ has_point n list.now }
 {
-    let w = n + 1;
-    let m = list.len() / w;
-    let mut i = 0;
-    while i < m {
-        let last = list[i * w + n];
-        if last != Vector::MARK {
-            return true;
-        }
-        i += 1;
-    }
-    false
+    list.chunks_exact(n + 1)
+        .any(|vector| vector[n] != Vector::MARK)
 }

@@ -1,84 +1,53 @@
 // Whether the input of a call is good: SHAPE before ENTRY.
 ghost use Rattle.std.specs.Prelude.{◌≡◌, ◌≤◌};
 ghost use Rattle.sets.specs.Tests.{clocks_ok, whole_ok};
-ghost use Rattle.sets.specs.Rules.{contains_checked, included_checked, why_of};
+ghost use Rattle.sets.specs.Rules.{contains_checked, included_checked};
 
-use crate::{Checked, entries};
+use crate::entries;
 use numbers::Refusal;
 
 // 1 to 6 clocks
+#[tactic(auto, unfolding(crate::specs::Tests::clocks_ok))]
 pub fn clocks(n: usize) -> bool
     ensures { result ≡ clocks_ok n }
 {
-    if n < 1 {
-        return false;
-    }
-    n <= 6
+    (1..=6).contains(&n)
 }
 
 // Whole vectors, at most 32.
+#[tactic(auto, unfolding(crate::specs::Tests::whole_ok))]
 pub fn whole(n: usize, long: usize) -> bool
     requires { n ≤ 6 }
     ensures { result ≡ whole_ok n long }
 {
     let w = n + 1;
-    let m = long / w;
-    if m * w != long {
-        return false;
-    }
-    m <= 32
+    long % w == 0 && long / w <= 32
 }
 
 // The input of `contains`: good, or the first refusal.
-pub fn contains(n: usize, list: &[i32], point: &[i32]) -> Checked
+#[tactic(auto, unfolding(crate::specs::Rules::contains_checked, crate::specs::Tests::clocks_ok))]
+pub fn contains(n: usize, list: &[i32], point: &[i32]) -> Result<(), Refusal>
     ensures { result ≡ contains_checked n list.now point.now }
 {
-    if !clocks(n) {
-        return Checked::Refused(Refusal::Shape);
+    if !clocks(n) || !whole(n, list.len()) || point.len() != n {
+        return Err(Refusal::Shape);
     }
-    if !whole(n, list.len()) {
-        return Checked::Refused(Refusal::Shape);
+    if !entries::list_fits(n, list) || !entries::words_fit(point, n, false) {
+        return Err(Refusal::Entry);
     }
-    if point.len() != n {
-        return Checked::Refused(Refusal::Shape); // the tested point is not n words
-    }
-    if !entries::list_fits(n, list) {
-        return Checked::Refused(Refusal::Entry);
-    }
-    if !entries::words_fit(point, n, false) {
-        return Checked::Refused(Refusal::Entry);
-    }
-    Checked::Good
+    Ok(())
 }
 
 // The input of `included`: good, or the first refusal.
-pub fn included(n: usize, inner: &[i32], outer: &[i32]) -> Checked
+#[tactic(auto, unfolding(crate::specs::Rules::included_checked, crate::specs::Tests::clocks_ok))]
+pub fn included(n: usize, inner: &[i32], outer: &[i32]) -> Result<(), Refusal>
     ensures { result ≡ included_checked n inner.now outer.now }
 {
-    if !clocks(n) {
-        return Checked::Refused(Refusal::Shape);
+    if !clocks(n) || !whole(n, inner.len()) || !whole(n, outer.len()) {
+        return Err(Refusal::Shape);
     }
-    if !whole(n, inner.len()) {
-        return Checked::Refused(Refusal::Shape);
+    if !entries::list_fits(n, inner) || !entries::list_fits(n, outer) {
+        return Err(Refusal::Entry);
     }
-    if !whole(n, outer.len()) {
-        return Checked::Refused(Refusal::Shape);
-    }
-    if !entries::list_fits(n, inner) {
-        return Checked::Refused(Refusal::Entry);
-    }
-    if !entries::list_fits(n, outer) {
-        return Checked::Refused(Refusal::Entry);
-    }
-    Checked::Good
-}
-
-// The refusal of an input that is not good.
-pub fn why(checked: Checked) -> Refusal
-    ensures { result ≡ why_of checked }
-{
-    match checked {
-        Checked::Refused(e) => e,
-        Checked::Good => Refusal::Shape,
-    }
+    Ok(())
 }

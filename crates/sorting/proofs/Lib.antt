@@ -1,6 +1,5 @@
 pub mod Held
 pub mod Order
-pub mod Copying
 pub mod Compare
 pub mod Selecting
 pub mod Emitting

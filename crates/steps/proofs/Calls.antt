@@ -5,7 +5,7 @@ use Prim.Native.Nat.{ℕ, ◌+◌, ◌*◌, ◌<◌}
 use native.Mathlib.Omega.{arith}
 use lib.IntN.{ℤ, pos}
 use lib.ListN.{take}
-use Rattle.making.specs.declared.Made.{Made}
+use Rattle.making.specs.Types.{Made}
 use Rattle.making.specs.Limits.{Roomy}
 use Rattle.making.specs.Calls.{Intersects, Delays, Resets}
 use Rattle.making.specs.Rules.{intersect_of, delay_of, reset_of}

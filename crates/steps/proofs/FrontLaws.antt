@@ -1,27 +1,22 @@
 -- The list at the front of working memory.
-use mathlib.Core.List.{List, [], ◌∷◌, ◌++◌}
+use Rattle.std.proofs.Common.{Ok}
+use mathlib.Core.List.{List, ◌++◌}
 use mathlib.Core.Path.{◌≡◌, refl, sym, ◌∙◌, ap, subst}
-use Prim.Native.Nat.{ℕ, suc, ◌+◌, ◌*◌, ◌/◌, ◌≤◌}
-use native.Mathlib.Nat.{mul-le-mul, mul-le-mul_right, zero-mul, zero-lt-suc, div-eq_of_eq-mul_left}
+use Prim.Native.Nat.{ℕ, suc, ◌+◌, ◌*◌, ◌≤◌}
+use native.Mathlib.Nat.{mul-le-mul, zero-lt-suc, div-eq_of_eq-mul_left}
 use native.Mathlib.Numerals.{add-one}
 use native.Mathlib.Omega.{arith}
 use lib.IntN.{ℤ, pos}
 use lib.ListN.{length, take, drop, replicate, length-append, length-drop, length-replicate}
-use lib.Seq.{length-take-le, take_at, take-length}
-use Rattle.numbers.specs.declared.Refusal.{Refusal}
+use lib.Seq.{length-take-le, take_at}
 use Rattle.algebra.specs.Vectors.{count}
 use Rattle.sets.specs.Limits.{Clocks, Whole}
-use Rattle.sets.specs.declared.Told.TheVariants.{Yes, No, Refused as ToldRefused}
-use Rattle.sorting.specs.Rows.{put}
-use Rattle.making.specs.declared.Made.{Made}
-use Rattle.making.specs.declared.Made.TheVariants.{Vectors, Refused}
-use Rattle.making.specs.Limits.{Roomy}
+use Rattle.making.specs.Types.{Made}
 use Rattle.making.specs.Rules.{Result}
 use Rattle.runs.specs.Rule.{Step, made, stop}
 use Rattle.runs.specs.Shown.{Shows, shown}
 use Rattle.runs.proofs.ProperLists.{Proper}
-use Rattle.steps.specs.Steps.{Listed, meets_by}
-use Rattle.steps.specs.Working.{front, step_by, Memory, Kept, KeptBy, Working, Begun, Stepped}
+use Rattle.steps.specs.Working.{front, step_by, Memory, Kept, Working, Begun, Stepped}
 
 -- ---- how many words
 -- at most 32 vectors over at most 6 clocks are at most 224 words
@@ -55,10 +50,6 @@ module _ {n k : ℕ} {work : List ℤ} (h : Working n k work) where
   pub working_inside : k * (n + 1) ≤ length work
   working_inside = front_inside n k work h.memory h.kept.few
 
--- an area for a result has room for them
-pub front_roomy : (n k : ℕ) (area : List ℤ) → Roomy n area → k ≤ 32 → k * (n + 1) ≤ length area
-front_roomy n k area roomy few = omega (arith, words_as n k, mul-le-mul_right (suc n) few)
-
 -- memory that was just made
 pub blank_memory : (n : ℕ) → Clocks n → Memory n (replicate 224 (pos 0))
 blank_memory n clocks = record { clocks = clocks; room = length-replicate 224 (pos 0) }
@@ -83,32 +74,7 @@ laid_kept : (n : ℕ) (v d : List ℤ) → Proper n v → Kept n (count n v) (v 
 laid_kept n v d p =
     record { few = p.whole.few; proper = subst (Proper n) (sym (laid_front n v d p.whole)) p }
 
--- ---- a list put to the front
-put_front : (d v : List ℤ) (w : ℕ) → put d 0 v w ≡ v ++ drop w d
-unfolding put
-put_front d v w = let e : 0 + w ≡ w = omega arith in ap (λ (k : ℕ). v ++ drop k d) e
-
--- the room for it
-pub begin_room : (n : ℕ) (list work : List ℤ) → Memory n work → Listed n list → 0 + length list ≤ length work
-begin_room n list work memory listed = let h = whole_small n list work memory listed.proper.whole in omega arith
-
--- the list that is begun with
-pub begun : (n : ℕ) (list work : List ℤ) → Memory n work → Listed n list
-    → Begun n list (length list / (n + 1)) (put work 0 (take (length list) (drop 0 list)) (length list))
-begun n list work memory listed =
-    let many : length list / (n + 1) ≡ count n list = ap (λ (w : ℕ). length list / w) (add-one n) in
-    let all : put work 0 (take (length list) list) (length list) ≡ list ++ drop (length list) work =
-    put_front work (take (length list) list) (length list)
-    ∙ ap (λ (l : List ℤ). l ++ drop (length list) work) (take-length list) in
-    rw (many, all)
-    (record {
-      working = record {
-        memory = laid_memory n list work memory listed.proper.whole;
-        kept = laid_kept n list work listed.proper;
-      };
-      stands = laid_front n list work listed.proper.whole;
-    })
-
+-- ---- what a call shows
 -- an answer and an area, each settled
 pub same : {a b : Made} {l m : List ℤ} → a ≡ b → l ≡ m
     → ◌≡◌ {A = Result} (record { made = a; area = l }) (record { made = b; area = m })
@@ -116,14 +82,11 @@ same p q = cc
 
 -- the list that an answer tells of
 pub show_made : (n k : ℕ) (work area : List ℤ) → Memory n work → k ≤ 32
-    → Shows n (step_by n (Vectors k) work) area (Vectors k)
-    (put area 0 (take (k * (n + 1)) (drop 0 work)) (k * (n + 1)))
-show_made n k work area memory few = same (ap Vectors (sym (front_count n k work memory few)))
-    (ap (λ (w : ℕ). put area 0 (take w work) w) (words_as n k)
-    ∙ (put_front area (front n k work) (k * suc n)
-    ∙ ap (λ (w : ℕ). front n k work ++ drop w area) (sym (front_long n k work memory few))))
+    → Shows n (made (front n k work)) area (Ok k) (take (k * (n + 1)) work ++ drop (k * (n + 1)) area)
+show_made n k work area memory few = same (ap Ok (sym (front_count n k work memory few)))
+    (ap (λ (w : ℕ). take w work ++ drop w area) (words_as n k)
+    ∙ ap (λ (w : ℕ). front n k work ++ drop w area) (sym (front_long n k work memory few)))
 
--- ---- what a call shows
 -- the list that a step makes is one that the walk keeps
 abbrev pub Sound : ℕ → Step → Type 0
 Sound n step = (t : List ℤ) → step ≡ made t → Proper n t
@@ -162,29 +125,3 @@ module _ {n : ℕ} {list : List ℤ} {k : ℕ} {work : List ℤ} (b : Begun n li
   pub shown_begun : (out : List ℤ) {r : Made} {written : List ℤ} → Shows n (step_by n answer after) out r written
       → Shows n (f list) out r written
   shown_begun out {r} {written} e = subst (λ (s : Step). Shows n s out r written) told e
-
-  -- the target test
-  met : (a : Made) → answer ≡ a → meets_by (step_by n a after) ≡ meets_by (f list)
-  met a e = ap (λ (a : Made). meets_by (step_by n a after)) (sym e) ∙ ap meets_by told
-
-  -- the target test: the step is refused
-  pub met_refused : {e : Refusal} → answer ≡ Refused e → ToldRefused e ≡ meets_by (f list)
-  met_refused {e} q = met (Refused e) q
-
-  -- nothing is left
-  pub met_none : {m : ℕ} → answer ≡ Vectors m → m ≡ 0 → No ≡ meets_by (f list)
-  met_none {m} q e = ap (λ (w : ℕ). meets_by (made (take w after))) (sym (zero-mul (suc n))) ∙ met (Vectors 0) (q ∙ ap Vectors e)
-
-  -- something is left
-  pub met_some : {m : ℕ} → answer ≡ Vectors m → (m ≡ 0 → ⊥) → Yes ≡ meets_by (f list)
-  met_some {m} q e = full (front n m after) (omega (arith, front_long n m after h.memory kept.few, words)) ∙ met (Vectors m) q
-    where
-      kept : Kept n m after
-      kept = subst (λ (a : Made). KeptBy n a after) q h.kept
-
-      words : 1 * 1 ≤ m * suc n
-      words = let one : 1 ≤ m = omega arith in let wide : 1 ≤ suc n = omega arith in mul-le-mul one wide
-
-      full : (l : List ℤ) → 1 ≤ length l → Yes ≡ meets_by (made l)
-      full [] h = absurd (omega arith)
-      full (z ∷ l) h = refl

@@ -5,40 +5,20 @@ use Prim.Native.Nat.{ℕ, zero, suc, ◌*◌, ◌≤◌, ◌<◌}
 use native.Mathlib.Numerals.{add-one}
 use native.Mathlib.Omega.{arith}
 use lib.IntN.{ℤ, pos}
-use lib.ListN.{length, get_or, set, take, drop, replicate, length-set}
+use lib.ListN.{length, set, take, drop, replicate, length-set}
 use lib.Seq.{take-set-lt}
 use Rattle.numbers.specs.Words.{mark, number, word}
 use Rattle.algebra.specs.Vectors.{Vector, words}
 use Rattle.sorting.proofs.Held.{held_cons, held_none, words_held}
 use Rattle.bounds.specs.declared.Kind.{Kind}
-use Rattle.bounds.specs.declared.Kind.TheVariants.{AtMost, AtLeast, HalfSpace}
+use Rattle.bounds.specs.declared.Kind.TheVariants.{HalfSpace}
 use Rattle.bounds.specs.declared.Bound.{Bound}
-use Rattle.bounds.specs.Limits.{PlainLimits, HalfLimits}
-use Rattle.bounds.proofs.BoundTrip.{nonneg}
+use Rattle.bounds.specs.Limits.{HalfLimits}
 use Rattle.model.specs.Plain.{bound_by}
-use Rattle.runs.specs.Table.{Slot as RuleSlot, Row as RuleRow, ax, ay, b, cx, cy, d, row, table, place, row_words, half_of}
-use Rattle.steps.specs.declared.table.Slot.TheVariants.{Ax, Ay, B, Cx, Cy, D}
-use Rattle.steps.specs.declared.table.Row.{Row}
-use Rattle.steps.specs.Rows.{slot_by, row_by, Halves}
+use Rattle.runs.specs.Table.{Slot as RuleSlot, Row as RuleRow, ax, ay, b, cx, cy, d, place, row_words, half_of}
+use Rattle.steps.specs.Rows.{Halves}
 
 -- ---- by a row
--- the table as it stands in the code
-abbrev pub rows : List Row
-rows = record { nought = Ax; constant = D } ∷ record { nought = Cx; constant = B }
-    ∷ record { nought = Ax; constant = Cy } ∷ record { nought = Cx; constant = Ay } ∷ []
-
--- what stands behind the last row
-abbrev pub past_row : Row
-past_row = record { nought = Ax; constant = Ax }
-
--- it is the rule's
-same_rows : (i : ℕ) → i < 4 → row_by (get_or rows i past_row) ≡ get_or table i (row ax d)
-same_rows zero h = refl
-same_rows (suc zero) h = refl
-same_rows (suc (suc zero)) h = refl
-same_rows (suc (suc (suc zero))) h = refl
-same_rows (suc (suc (suc (suc i)))) h = absurd (omega arith)
-
 -- a slot stands among the 2(n + 1) words
 place_inside : (n x y : ℕ) (s : RuleSlot) → x < n → y < n → place n x y s < 2 * suc n
 place_inside n x y ax h l = omega arith
@@ -47,10 +27,6 @@ place_inside n x y b h l = omega arith
 place_inside n x y cx h l = omega arith
 place_inside n x y cy h l = omega arith
 place_inside n x y d h l = omega arith
-
--- which are at most 14
-pub place_small : (n x y : ℕ) (s : RuleSlot) {p : ℕ} → n ≤ 6 → x < n → y < n → p ≡ place n x y s → p < 14
-place_small n x y s {p} few h l e = omega (arith, place_inside n x y s h l)
 
 take_same : (m k : ℕ) (z : ℤ) → m ≤ k → take m (replicate k z) ≡ replicate m z
 take_same zero k z h = refl
@@ -72,12 +48,10 @@ module _ (n x y : ℕ) (k : ℤ) (few : n ≤ 6) (h : x < n) (l : y < n) where
             ∙ ap (λ (m : List ℤ). set m p (pos 0)) (take_same (2 * suc n) 14 mark (omega arith)));
       }
 
-  -- what the code sets by row i
-  pub set_halves : (i : ℕ) → i < 4 → {p q : ℕ} {z : ℤ}
-      → p ≡ place n x y (slot_by (get_or rows i past_row).nought)
-      → q ≡ place n x y (slot_by (get_or rows i past_row).constant) → z ≡ k
-      → Halves n (row_words n (get_or table i (row ax d)) x y k) (set (set (replicate 14 mark) p (pos 0)) q z)
-  set_halves i m e f g = rw (e, f, g, ← same_rows i m) (row_halves (row_by (get_or rows i past_row)))
+  -- what the code sets
+  pub set_halves : (r : RuleRow) {p q : ℕ} {z : ℤ} → p ≡ place n x y r.nought → q ≡ place n x y r.constant → z ≡ k
+      → Halves n (row_words n r x y k) (set (set (replicate 14 mark) p (pos 0)) q z)
+  set_halves r e f g = rw (e, f, g) (row_halves r)
 
 -- ---- by a kind
 module _ (n : ℕ) (bound : Bound) {half : List ℤ} where
@@ -85,16 +59,6 @@ module _ (n : ℕ) (bound : Bound) {half : List ℤ} where
   pub half_as : (kind : Kind) → bound.kind ≡ kind → Halves n (half_of n (bound_by n bound kind)) half
       → Halves n (half_of n (bound_by n bound bound.kind)) half
   half_as kind e h = subst (λ (k : Kind). Halves n (half_of n (bound_by n bound k)) half) (sym e) h
-
-  -- x ≤ k and x ≥ k have no y, and k is no negative number
-  pub at_most : PlainLimits n bound → Halves n (row_words n (row ax d) bound.x bound.y bound.k) half
-      → Halves n (half_of n (bound_by n bound AtMost)) half
-  at_most w h = rw (nonneg bound.k w.least) h
-
-  -- kind 1
-  pub at_least : PlainLimits n bound → Halves n (row_words n (row cx b) bound.x bound.y bound.k) half
-      → Halves n (half_of n (bound_by n bound AtLeast)) half
-  at_least w h = rw (nonneg bound.k w.least) h
 
 two_words : (ab cd : Vector) → words (ab ∷ cd ∷ []) ≡ map word ab ++ map word cd
 unfolding words

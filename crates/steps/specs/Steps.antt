@@ -1,8 +1,7 @@
 -- What the walk's steps are given, and what the target test answers.
-use Rattle.std.specs.Prelude.{cond, List, ℕ, ℤ}
+use Rattle.std.specs.Prelude.{not, List, ℕ, ℤ, Err, Ok}
 use Rattle.sets.specs.Limits.{Clocks}
-use Rattle.sets.specs.declared.Told.{Told}
-use Rattle.sets.specs.declared.Told.TheVariants.{Yes, No, Refused}
+use Rattle.sets.specs.Types.{Told}
 use Rattle.making.specs.Limits.{Roomy}
 use Rattle.runs.specs.Rule.{Step, made, stop, is_empty}
 use Rattle.runs.proofs.ProperLists.{Proper}
@@ -19,5 +18,5 @@ pub record Starts (n : ℕ) (list area : List ℤ) : Type 0 where
 
 -- the target test: whether what the step made is nonempty, or its refusal
 abbrev pub meets_by : Step → Told
-meets_by (made l) = cond (is_empty l) No Yes
-meets_by (stop e) = Refused e
+meets_by (made l) = Ok (not (is_empty l))
+meets_by (stop e) = Err e

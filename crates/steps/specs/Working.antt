@@ -1,12 +1,11 @@
 -- Working memory whose front is the list that the walk's steps go on from.
-use Rattle.std.specs.Prelude.{cond, List, map, ◌≡◌, ℕ, suc, ◌*◌, ◌≤◌, eqb, ℤ, length, take}
+use Rattle.std.specs.Prelude.{List, map, ◌≡◌, ℕ, suc, ◌*◌, ◌≤◌, ℤ, length, take, Err, Ok}
 use Rattle.sets.specs.Limits.{Clocks}
-use Rattle.making.specs.declared.Made.{Made}
-use Rattle.making.specs.declared.Made.TheVariants.{Vectors, Refused}
+use Rattle.making.specs.Types.{Made}
 use Rattle.making.specs.Limits.{Roomy}
 use Rattle.bounds.specs.declared.Bound.{Bound}
 use Rattle.model.specs.Plain.{bound_by}
-use Rattle.runs.specs.Rule.{Step, made, stop, reset_to0, cut_all}
+use Rattle.runs.specs.Rule.{Step, made, stop, cut_all}
 use Rattle.runs.proofs.ProperLists.{Proper}
 
 -- the first k vectors of the memory
@@ -36,13 +35,13 @@ pub record Begun (n : ℕ) (list : List ℤ) (k : ℕ) (work : List ℤ) : Type 
 -- ---- what an answer tells of the memory
 -- the vectors that it counts are a list as the walk keeps it
 abbrev pub KeptBy : ℕ → Made → List ℤ → Type 0
-KeptBy n (Vectors k) work = Kept n k work
-KeptBy n (Refused e) work = Unit {0}
+KeptBy n (Ok k) work = Kept n k work
+KeptBy n (Err e) work = Unit {0}
 
 -- the step that it tells of
 abbrev pub step_by : ℕ → Made → List ℤ → Step
-step_by n (Vectors k) work = made (front n k work)
-step_by n (Refused e) work = stop e
+step_by n (Ok k) work = made (front n k work)
+step_by n (Err e) work = stop e
 
 -- the answer and the memory afterwards tell of the step
 pub record Stepped (n : ℕ) (step : Step) (answer : Made) (after : List ℤ) : Type 0 where
@@ -57,10 +56,6 @@ pub record Showable (n : ℕ) (answer : Made) (work area : List ℤ) : Type 0 wh
   pub roomy : Roomy n area
 
 -- ---- steps
--- clock i set to 0 if its bit is 1
-unfoldable pub reset_by : ℕ → ℕ → ℕ → List ℤ → Step
-reset_by n bit i l = cond (eqb bit 1) (reset_to0 n i l) (made l)
-
 -- the bounds that the records stand for, in their order
 abbrev pub cut_items : ℕ → List Bound → List ℤ → Step
 cut_items n items = cut_all n (map (λ b. bound_by n b b.kind) items)

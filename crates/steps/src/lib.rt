@@ -10,17 +10,16 @@ ghost use Rattle.steps.specs.Steps.{Listed, Starts, meets_by};
 
 use bounds::Bounds;
 use list::{begin, cut_all, entered, followed, show};
-use making::Made;
 use model::Edge;
-use sets::Told;
+use numbers::Refusal;
 
 mod table; // table.rt: bounds as half-spaces
 mod list; // list.rt: steps on the list at the front of working memory
 
 // Enters a location with its invariant.
-pub fn enter(n: usize, invariant: Bounds, list: &[i32], out: &mut [i32]) -> Made
-    requires { Starts n list.now out.old × BoundsLimits n invariant }
-    ensures { Shows n (entering n (bounds_of n invariant) list.now)
+pub fn enter(n: usize, invariant: &Bounds, list: &[i32], out: &mut [i32]) -> Result<usize, Refusal>
+    requires { Starts n list.now out.old × BoundsLimits n invariant.now }
+    ensures { Shows n (entering n (bounds_of n invariant.now) list.now)
         out.old result out.new }
 {
     let mut work = [0; 224];
@@ -30,9 +29,15 @@ pub fn enter(n: usize, invariant: Bounds, list: &[i32], out: &mut [i32]) -> Made
 }
 
 // Forms the candidate over an edge to a location with its invariant.
-pub fn candidate(n: usize, edge: Edge, invariant: Bounds, list: &[i32], out: &mut [i32]) -> Made
-    requires { Starts n list.now out.old × BoundsLimits n edge.guard × BoundsLimits n invariant }
-    ensures { Shows n (following n (edge_of n edge) (bounds_of n invariant) list.now)
+pub fn candidate(
+    n: usize,
+    edge: &Edge,
+    invariant: &Bounds,
+    list: &[i32],
+    out: &mut [i32],
+) -> Result<usize, Refusal>
+    requires { Starts n list.now out.old × BoundsLimits n edge.now.guard × BoundsLimits n invariant.now }
+    ensures { Shows n (following n (edge_of n edge.now) (bounds_of n invariant.now) list.now)
         out.old result out.new }
 {
     let mut work = [0; 224];
@@ -42,15 +47,12 @@ pub fn candidate(n: usize, edge: Edge, invariant: Bounds, list: &[i32], out: &mu
 }
 
 // Whether the list's set meets the bounds of the target.
-pub fn meets(n: usize, goal: Bounds, list: &[i32]) -> Told
-    requires { Listed n list.now × BoundsLimits n goal }
-    ensures { result ≡ meets_by (cut_all n (bounds_of n goal) list.now) }
+pub fn meets(n: usize, goal: &Bounds, list: &[i32]) -> Result<bool, Refusal>
+    requires { Listed n list.now × BoundsLimits n goal.now }
+    ensures { result ≡ meets_by (cut_all n (bounds_of n goal.now) list.now) }
 {
     let mut work = [0; 224];
     let k = begin(&mut work, list, n);
-    let answer = cut_all(&mut work, k, goal, n);
-    match answer {
-        Made::Vectors(m) => { if m == 0 { Told::No } else { Told::Yes } }
-        Made::Refused(why) => Told::Refused(why),
-    }
+    let m = cut_all(&mut work, k, goal, n)?;
+    Ok(m != 0)
 }

@@ -1,9 +1,9 @@
 // Bounds become half-spaces by a fixed table of four rows; a half-space of its own is taken as it is.
-ghost use Rattle.std.specs.Prelude.{◌≡◌, ◌≤◌, ◌<◌, get_or};
+ghost use Rattle.std.specs.Prelude.{◌≡◌, ◌≤◌, ◌<◌};
 ghost use Rattle.bounds.specs.Limits.{BoundLimits};
 ghost use Rattle.model.specs.Plain.{bound_by};
-ghost use Rattle.runs.specs.Table.{half_of, row_words, place as place_of, table, row, ax, d};
-ghost use Rattle.steps.specs.Rows.{slot_by, Halves};
+ghost use Rattle.runs.specs.Table.{half_of, row_words, place as place_of};
+ghost use Rattle.steps.specs.Rows.{slot_by, row_by, Halves};
 
 use bounds::{Bound, Kind};
 use numbers::Vector;
@@ -26,26 +26,6 @@ struct Row {
     constant: Slot,
 }
 
-// By the number of the kind: x ≤ k, x ≥ k, x − y ≤ k, x − y ≥ k.
-const TABLE: [Row; 4] = [
-    Row {
-        nought: Slot::Ax,
-        constant: Slot::D,
-    },
-    Row {
-        nought: Slot::Cx,
-        constant: Slot::B,
-    },
-    Row {
-        nought: Slot::Ax,
-        constant: Slot::Cy,
-    },
-    Row {
-        nought: Slot::Cx,
-        constant: Slot::Ay,
-    },
-];
-
 // Where a slot stands among the 2(n + 1) words.
 fn place(n: usize, x: usize, y: usize, slot: Slot) -> usize
     requires { (n ≤ 6) × (x < n) × (y < n) }
@@ -61,35 +41,42 @@ fn place(n: usize, x: usize, y: usize, slot: Slot) -> usize
     }
 }
 
-// The half-space that row i of the table makes of the clocks x and y and the constant k.
-fn by_row(n: usize, i: usize, x: usize, y: usize, k: i32) -> [i32; 14]
-    requires { (n ≤ 6) × (i < 4) × (x < n) × (y < n) }
-    ensures { Halves n (row_words n (get_or table i (row ax d)) x y k) result }
+// The half-space that a row makes of the clocks x and y and the constant k.
+fn by_row(n: usize, row: Row, x: usize, y: usize, k: i32) -> [i32; 14]
+    requires { (n ≤ 6) × (x < n) × (y < n) }
+    ensures { Halves n (row_words n (row_by row) x y k) result }
 {
-    let row = TABLE[i];
-    let nought = row.nought;
-    let constant = row.constant;
-    let p = place(n, x, y, nought);
-    let q = place(n, x, y, constant);
+    let p = place(n, x, y, row.nought);
+    let q = place(n, x, y, row.constant);
     let mut half = [Vector::MARK; 14];
     half[p] = 0;
     half[q] = k;
     half
 }
 
-// The half-space of a bound.
-pub fn half(b: Bound, n: usize) -> [i32; 14]
-    requires { (n ≤ 6) × BoundLimits n b }
-    ensures { Halves n (half_of n (bound_by n b b.kind)) result }
+// The half-space of a bound: by the row of its kind, or its own.
+pub fn half(b: &Bound, n: usize) -> [i32; 14]
+    requires { (n ≤ 6) × BoundLimits n b.now }
+    ensures { Halves n (half_of n (bound_by n b.now b.now.kind)) result }
 {
-    let kind = b.kind;
-    let x = b.x as usize;
-    let y = b.y as usize;
-    match kind {
-        Kind::AtMost => by_row(n, 0, x, y, b.k),
-        Kind::AtLeast => by_row(n, 1, x, y, b.k),
-        Kind::DifferAtMost => by_row(n, 2, x, y, b.k),
-        Kind::DifferAtLeast => by_row(n, 3, x, y, b.k),
-        Kind::HalfSpace => b.half,
-    }
+    let row = match b.kind {
+        Kind::AtMost => Row {
+            nought: Slot::Ax,
+            constant: Slot::D,
+        },
+        Kind::AtLeast => Row {
+            nought: Slot::Cx,
+            constant: Slot::B,
+        },
+        Kind::DifferAtMost => Row {
+            nought: Slot::Ax,
+            constant: Slot::Cy,
+        },
+        Kind::DifferAtLeast => Row {
+            nought: Slot::Cx,
+            constant: Slot::Ay,
+        },
+        Kind::HalfSpace => return b.half,
+    };
+    by_row(n, row, b.x as usize, b.y as usize, b.k)
 }

@@ -1,4 +1,5 @@
 -- State 0: the initial location entered with all clocks 0.
+use Rattle.std.proofs.Common.{Err, Ok}
 use mathlib.Core.List.{List, []}
 use mathlib.Core.Path.{◌≡◌, refl, sym, ap, ◌∙◌, subst}
 use Prim.Native.Nat.{ℕ, zero, suc, ◌+◌, ◌-◌, ◌*◌, ◌≤◌}
@@ -8,17 +9,16 @@ use native.Mathlib.Omega.{arith}
 use lib.IntN.{ℤ, pos}
 use lib.ListN.{length, take, get_or, replicate, length-replicate, replicate-append-replicate}
 use lib.Seq.{take_at, length-take-le}
-use denote.Enum.Declared.{tag_of}
 use Rattle.sets.specs.Limits.{Clocks}
 use Rattle.making.specs.Limits.{Roomy}
-use Rattle.making.specs.declared.Made.{Made}
-use Rattle.making.specs.declared.Made.TheVariants.{Vectors, Refused}
-use Rattle.making.specs.contracts.Made.{the_type}
 use Rattle.runs.specs.Models.{System}
 use Rattle.runs.specs.Rule.{Step, made, stop, zeros, entering, enter, nothing, zeroth, keep}
 use Rattle.runs.specs.Rule.{ends_never, begun, layers, from, walk_to, walk_of}
+use Rattle.std.specs.Result.{IsErrAnd}
+use Rattle.std.proofs.lemmas.Result.{err_from_is_err_and}
+use Rattle.numbers.specs.declared.Refusal.{Refusal}
 use Rattle.runs.specs.Shown.{Shows}
-use Rattle.runs.specs.declared.Verdict.{Verdict}
+use Rattle.runs.specs.Verdicts.{Judged}
 use Rattle.runs.specs.declared.Verdict.TheVariants.{Never}
 use Rattle.runs.proofs.ProperLists.{Proper, zeros_proper}
 use Rattle.runs.proofs.Entering.{entering_proper}
@@ -31,7 +31,7 @@ use Rattle.model.specs.Plain.{plain, bounds_of}
 use Rattle.model.proofs.PlainLimits.{bounds_plain, invariant_at, invariant_fits}
 use Rattle.steps.specs.Steps.{Starts}
 use Rattle.area.specs.Records.{states_in}
-use Rattle.walk.specs.Control.{tally, Ready, Finds, stopped_by, ended_by}
+use Rattle.walk.specs.Control.{tally, Ready, Finds}
 use Rattle.walk.proofs.KeepingLaws.{stays, full_list}
 use Rattle.walk.proofs.FormLaws.{Gave, shows_made, shows_refused}
 use Rattle.walk.proofs.LayerLaws.{finds_never, finds_refused}
@@ -77,15 +77,15 @@ module _ (m : Model) (limits : ModelLimits m) (room : ℕ) (inv : Bounds)
       ∙ sym (invariant_at m limits past_bounds m.initial limits.numbers.initial))
 
   -- what entering made is the list of state 0
-  pub begin_gave : (before : List ℤ) (answer : Made) (k : ℕ) (after : List ℤ) → Shows n called before answer after
-      → answer ≡ Vectors k → Gave n (enter S S.initial (zeros n)) k after
-  begin_gave before answer k after s q = subst (λ (o : Step). Gave n o k after) same
-      (shows_made n called before answer k after
+  pub begin_gave : (before : List ℤ) (k : ℕ) (after : List ℤ) → Shows n called before (Ok k) after
+      → Gave n (enter S S.initial (zeros n)) k after
+  begin_gave before k after s = subst (λ (o : Step). Gave n o k after) same
+      (shows_made n called before k after
       (λ t e. entering_proper n (bounds_of n inv)
       (bounds_plain n inv (subst (BoundsLimits n) (sym known)
       (invariant_fits m limits past_bounds m.initial limits.numbers.initial))).each
       (take (n + 1) (replicate 7 (pos 0))) t (subst (Proper n) (sym (zeros_part n clocks.few)) (zeros_proper n)) e)
-      s q)
+      s)
 
   walk_is : (o : Step) → enter S S.initial (zeros n) ≡ o
       → from S room (layers S room m.depth 0) o ≡ walk_of (plain m) room
@@ -93,13 +93,12 @@ module _ (m : Model) (limits : ModelLimits m) (room : ℕ) (inv : Bounds)
   walk_is o e = ap (from S room (layers S room m.depth 0)) (sym e)
 
   -- entering was refused
-  pub begin_stops : (area before : List ℤ) (answer : Made) (after : List ℤ) {v : Verdict}
-      → Shows n called before answer after → tag_of the_type answer ≡ 1 → v ≡ ended_by (stopped_by answer) 0
+  pub begin_stops : (area before : List ℤ) {x : Refusal} (after : List ℤ) {v : Judged}
+      → Shows n called before (Err x) after → IsErrAnd v (λ f. f ≡ x)
       → Finds n 0 m.depth (walk_of (plain m) room) area v area
-  begin_stops area before (Vectors k) after s z f = absurd (omega (arith, z))
-  begin_stops area before (Refused x) after {v} s z f =
-      subst (λ (v : Verdict). Finds n 0 m.depth (walk_of (plain m) room) area v area) (sym f)
-      (finds_refused (walk_is (stop x) (sym same ∙ shows_refused n called before x after s)))
+  begin_stops area before {x} after {v} s up =
+      let p = err_from_is_err_and v up in
+      rw (p.1, p.2) (finds_refused (walk_is (stop x) (sym same ∙ shows_refused n called before x after s)))
 
   module _ (area : List ℤ) (k : ℕ) (after : List ℤ) (g : Gave n (enter S S.initial (zeros n)) k after) where
     abbrev l : List ℤ
@@ -107,7 +106,7 @@ module _ (m : Model) (limits : ModelLimits m) (room : ℕ) (inv : Bounds)
 
     -- state 0 is empty
     pub begin_empty : Ready n room (tally 0 0) area → k ≡ 0
-        → Finds n 0 m.depth (walk_of (plain m) room) area (Never 0 0) area
+        → Finds n 0 m.depth (walk_of (plain m) room) area (Ok (Never 0 0)) area
     begin_empty r e = finds_never (stays n room (tally 0 0) area 0 (omega arith) r) never
       where
         none : l ≡ []

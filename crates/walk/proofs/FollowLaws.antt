@@ -18,7 +18,8 @@ use Rattle.model.specs.Outlines.{list_at, edge_at, model_by, Outlines}
 use Rattle.model.proofs.PlainLimits.{edge_at_lem, edge_fits_lem, invariant_at, invariant_fits}
 use Rattle.model.proofs.PlaceLaws.{list_stands, edge_stands}
 use Rattle.area.specs.Records.{state_in, state}
-use Rattle.walk.specs.declared.Moved.{Moved}
+use Rattle.walk.specs.Control.{Answered}
+use Rattle.walk.specs.declared.Goal.{Goal}
 use Rattle.walk.specs.declared.Tally.{Tally}
 use Rattle.walk.specs.Control.{Does, tally, walk_in, aimed, formed_to}
 use Rattle.walk.proofs.KeepingLaws.{does_as}
@@ -42,20 +43,17 @@ module _ (s : List ℕ) (o : Outline) (h : Outlines s o) where
     pub invariant_known : invariant (plain m).system q ≡ bounds_of n inv
     invariant_known = invariant_at m h.limits past_bounds q l ∙ ap (bounds_of n) (sym known)
 
-  -- the list that is read for the target
-  pub goal_limits : {b : Bounds} → b ≡ list_at n s o.list → BoundsLimits n b
-  goal_limits e = subst (BoundsLimits n) (sym e) h.limits.list
+  -- by what its states are kept
+  abbrev goal : Goal
+  goal = record { location = o.target; list = list_at n s o.list }
 
-  -- state 0 is kept, with that list as the target's
-  pub root_did : (room : ℕ) (area l : List ℤ) {k t : ℕ} {before after : List ℤ} {r : Moved} (b : Bounds)
-      → b ≡ list_at n s o.list → (parent edge : ℤ) → parent ≡ negsuc 0 → edge ≡ negsuc 0
-      → Does n room k t (keep (aimed n (record { location = o.target; list = b })) room
-      (state o.initial parent edge l) (walk_in n (tally 0 0) area)) before r after
+  -- state 0 is kept
+  pub root_did : (room : ℕ) (area l : List ℤ) {k t : ℕ} {before after : List ℤ} {r : Answered} (parent edge : ℤ)
+      → parent ≡ negsuc 0 → edge ≡ negsuc 0
+      → Does n room k t (keep (aimed n goal) room (state o.initial parent edge l) (walk_in n (tally 0 0) area))
+      before r after
       → Does n room k t (keep (plain m).system room (zeroth (plain m).system l) nothing) before r after
-  root_did room area l {k} {t} {before} {after} {r} b goal parent edge p q d =
-      root_does m room area l parent edge p q
-      (subst (λ (b : Bounds). Does n room k t (keep (aimed n (record { location = o.target; list = b })) room
-      (state o.initial parent edge l) (walk_in n (tally 0 0) area)) before r after) goal d)
+  root_did room area l parent edge p q d = root_does m room area l parent edge p q d
 
   -- edge e
   module _ (e : ℕ) (l : e < o.edges) {E : Edge} (is : E ≡ edge_at n o.locations s (get_or o.steps e 0)) where
@@ -66,19 +64,14 @@ module _ (s : List ℕ) (o : Outline) (h : Outlines s o) where
     edge_limits = subst (EdgeLimits n o.locations) (sym edge_known) (edge_fits_lem m h.limits past_edge e l)
 
     -- its candidate is the rule's
-    pub followed : (room i : ℕ) (y : Tally) (area : List ℤ) {k t : ℕ} {before after : List ℤ} {r : Moved}
-        (inv b : Bounds) → i < y.kept
-        → get_or o.sources e 0 ≡ (state_in n area i).location
-        → inv ≡ list_at n s (get_or o.invariants E.destination 0) → b ≡ list_at n s o.list
-        → Does n room k t (formed_to (aimed n (record { location = o.target; list = b })) room E.destination i e
-        (walk_in n (tally y.kept (y.tried + 1)) area)
+    pub followed : (room i : ℕ) (y : Tally) (area : List ℤ) {k t : ℕ} {before after : List ℤ} {r : Answered}
+        (inv : Bounds) → i < y.kept → get_or o.sources e 0 ≡ (state_in n area i).location
+        → inv ≡ list_at n s (get_or o.invariants E.destination 0)
+        → Does n room k t (formed_to (aimed n goal) room E.destination i e (walk_in n (tally y.kept (y.tried + 1)) area)
         (following n (edge_of n E) (bounds_of n inv) (state_in n area i).list)) before r after
         → Does n room k t (try_edge (plain m).system room i e (walk_in n y area)) before r after
-    followed room i y area {k} {t} {before} {after} {r} inv b inside source list goal d =
+    followed room i y area inv inside source list d =
         does_as (try_leaves m room i e y area inside E
         (edge_at_lem m h.limits past_edge e l ∙ ap (edge_of n) (sym edge_known))
         (ap (λ (x : Edge). x.source) edge_known ∙ sym (h.sources e l) ∙ source) inv
-        (invariant_known E.destination edge_limits.destination list))
-        (subst (λ (b : Bounds). Does n room k t (formed_to (aimed n (record { location = o.target; list = b })) room
-        E.destination i e (walk_in n (tally y.kept (y.tried + 1)) area)
-        (following n (edge_of n E) (bounds_of n inv) (state_in n area i).list)) before r after) goal d)
+        (invariant_known E.destination edge_limits.destination list)) d

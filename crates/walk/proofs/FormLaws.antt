@@ -1,4 +1,5 @@
 -- Forming a candidate: what the steps made is what the rule goes on with.
+use Rattle.std.proofs.Common.{Err, Ok}
 use mathlib.Core.Bool.{cond}
 use mathlib.Core.List.{List}
 use mathlib.Core.Path.{◌≡◌, refl, sym, ap, ◌∙◌, subst}
@@ -11,14 +12,9 @@ use lib.IntN.{ℤ, negsuc}
 use lib.ListN.{length, take, drop}
 use lib.Seq.{take_at}
 use borrow.Author.Tests.{eq-eqb, ne_eqb}
-use denote.Enum.Declared.{tag_of}
 use Rattle.numbers.specs.declared.Refusal.{Refusal}
-use Rattle.sets.specs.Limits.{Clocks}
-use Rattle.making.specs.Limits.{Roomy}
-use Rattle.making.specs.contracts.Made.{the_type}
 use Rattle.algebra.specs.Vectors.{count}
-use Rattle.making.specs.declared.Made.{Made}
-use Rattle.making.specs.declared.Made.TheVariants.{Vectors, Refused}
+use Rattle.making.specs.Types.{Made}
 use Rattle.making.specs.Rules.{Result}
 use Rattle.runs.specs.Models.{System, Edge, edge, invariant}
 use Rattle.runs.specs.Rule.{Step, made, stop, State, state_at, Walk, Outcome, going}
@@ -28,7 +24,6 @@ use Rattle.runs.proofs.ProperLists.{Proper}
 use Rattle.runs.proofs.Entering.{following_proper}
 use Rattle.bounds.specs.Limits.{BoundsLimits}
 use Rattle.model.proofs.PlainLimits.{bounds_plain, resets_plain}
-use Rattle.steps.specs.Steps.{Starts}
 use Rattle.model.specs.Plain.{plain, bounds_of, edge_of}
 use Rattle.bounds.specs.declared.Bounds.{Bounds}
 use Rattle.model.specs.declared.Edge.{Edge as EdgeRecord}
@@ -38,8 +33,8 @@ use Rattle.area.specs.Records.{Stands, Places, state_in, states_in, state}
 use Rattle.area.proofs.KeepLaws.{states_at}
 use Rattle.walk.specs.declared.Tally.{Tally}
 use Rattle.walk.specs.declared.Goal.{Goal}
-use Rattle.walk.specs.declared.Moved.{Moved}
-use Rattle.walk.specs.Control.{tally, walk_in, Does, aimed, stopped_by, formed_to}
+use Rattle.walk.specs.Control.{Answered}
+use Rattle.walk.specs.Control.{tally, walk_in, Does, aimed, formed_to}
 
 -- ---- what a step's call says of the step
 made_of : {a b : Result} → a ≡ b → a.made ≡ b.made
@@ -48,13 +43,13 @@ made_of e = ap (λ r. r.made) e
 area_of : {a b : Result} → a ≡ b → a.area ≡ b.area
 area_of e = ap (λ r. r.area) e
 
-vectors_inj : {a b : ℕ} → ◌≡◌ {A = Made} (Vectors a) (Vectors b) → a ≡ b
+vectors_inj : {a b : ℕ} → ◌≡◌ {A = Made} (Ok a) (Ok b) → a ≡ b
 vectors_inj e = cc
 
-apart : {k : ℕ} {e : Refusal} → ◌≡◌ {A = Made} (Vectors k) (Refused e) → ⊥
+apart : {k : ℕ} {e : Refusal} → ◌≡◌ {A = Made} (Ok k) (Err e) → ⊥
 apart q = let z : ◌≡◌ {A = ℕ} 0 1 = cc in omega arith
 
-refused_inj : {a b : Refusal} → ◌≡◌ {A = Made} (Refused a) (Refused b) → a ≡ b
+refused_inj : {a b : Refusal} → ◌≡◌ {A = Made} (Err a) (Err b) → a ≡ b
 refused_inj e = cc
 
 -- a step that made the first k vectors of memory
@@ -64,17 +59,17 @@ pub record Gave (n : ℕ) (o : Step) (k : ℕ) (after : List ℤ) : Type 0 where
   pub proper : Proper n (take (k * (n + 1)) after)
 
 -- a list that was made is the one that the rule goes on with
-pub shows_made : (n : ℕ) (o : Step) (before : List ℤ) (answer : Made) (k : ℕ) (after : List ℤ)
-    → ((t : List ℤ) → o ≡ made t → Proper n t) → Shows n o before answer after → answer ≡ Vectors k → Gave n o k after
-shows_made n (stop e) before answer k after p h q = absurd (apart (sym q ∙ made_of h))
-shows_made n (made t) before answer k after p h q = record {
+pub shows_made : (n : ℕ) (o : Step) (before : List ℤ) (k : ℕ) (after : List ℤ)
+    → ((t : List ℤ) → o ≡ made t → Proper n t) → Shows n o before (Ok k) after → Gave n o k after
+shows_made n (stop e) before k after p h = absurd (apart (made_of h))
+shows_made n (made t) before k after p h = record {
   is = ap made (sym same);
   few = omega (arith, c, (p t refl).whole.few);
   proper = subst (Proper n) (sym same) (p t refl);
 }
   where
     c : k ≡ count n t
-    c = vectors_inj (sym q ∙ made_of h)
+    c = vectors_inj (made_of h)
 
     long : length t ≡ k * (n + 1)
     long = (p t refl).whole.exact ∙ (ap (λ (c : ℕ). c * suc n) (sym c) ∙ ap (λ (w : ℕ). k * w) (sym (add-one n)))
@@ -84,7 +79,7 @@ shows_made n (made t) before answer k after p h q = record {
 
 -- it was refused
 pub shows_refused : (n : ℕ) (o : Step) (before : List ℤ) (e : Refusal) (after : List ℤ)
-    → Shows n o before (Refused e) after → o ≡ stop e
+    → Shows n o before (Err e) after → o ≡ stop e
 shows_refused n (made t) before e after h = absurd (apart (sym (made_of h)))
 shows_refused n (stop f) before e after h = ap stop (sym (refused_inj (made_of h)))
 
@@ -95,13 +90,6 @@ prefix_in {n} {o} {k} {after} h g =
     omega (arith, a)
 
 -- ---- the candidate of a state that stands in the area
-pub place_starts : (n i : ℕ) (area : List ℤ) (p : Place) (out : List ℤ) → Clocks n → Places n area i p → Stands n area i
-    → Roomy n out → Starts n (take (p.to - p.from) (drop p.from area)) out
-place_starts n i area p out c at h r = record {
-  listed = record { clocks = c; proper = subst (Proper n) (sym at.list) h.proper };
-  roomy = r;
-}
-
 module _ (n i : ℕ) (area : List ℤ) (p : Place) (at : Places n area i p) (h : Stands n area i) (edge : EdgeRecord)
     (inv : Bounds) where
   abbrev part : List ℤ
@@ -111,26 +99,12 @@ module _ (n i : ℕ) (area : List ℤ) (p : Place) (at : Places n area i p) (h :
   step l = following n (edge_of n edge) (bounds_of n inv) l
 
   -- it was made
-  pub candidate_gave : BoundsLimits n edge.guard → BoundsLimits n inv → (before : List ℤ) (answer : Made) (k : ℕ)
-      (after : List ℤ) → Shows n (step part) before answer after → answer ≡ Vectors k
-      → Gave n (step (state_in n area i).list) k after
-  candidate_gave g f before answer k after s q =
-      subst (λ (l : List ℤ). Gave n (step l) k after) at.list (shows_made n (step part) before answer k after
+  pub candidate_gave : BoundsLimits n edge.guard → BoundsLimits n inv → (before : List ℤ) (k : ℕ) (after : List ℤ)
+      → Shows n (step part) before (Ok k) after → Gave n (step (state_in n area i).list) k after
+  candidate_gave g f before k after s =
+      subst (λ (l : List ℤ). Gave n (step l) k after) at.list (shows_made n (step part) before k after
       (λ t e. following_proper n (edge_of n edge) (bounds_plain n edge.guard g).each (resets_plain n edge.resets)
-      (bounds_of n inv) (bounds_plain n inv f).each part t (subst (Proper n) (sym at.list) h.proper) e) s q)
-
-  -- it was refused
-  pub candidate_stops : (S : System) (room q e : ℕ) (w : Walk) {k t : ℕ} (before : List ℤ) (answer : Made)
-      (after : List ℤ) (r : Moved) → Shows n (step part) before answer after → tag_of the_type answer ≡ 1
-      → r ≡ stopped_by answer → Does n room k t (formed_to S room q i e w (step (state_in n area i).list)) area r area
-  candidate_stops S room q e w {k} {t} before (Vectors m) after r s z f = absurd (omega (arith, z))
-  candidate_stops S room q e w {k} {t} before (Refused x) after r s z f =
-      subst (λ (r : Moved). Does n room k t (formed_to S room q i e w (step (state_in n area i).list)) area r area) (sym f)
-      (record {
-        is = sym (ap (formed_to S room q i e w)
-            (ap step (sym at.list) ∙ shows_refused n (step part) before x after s));
-        grows = tt;
-      })
+      (bounds_of n inv) (bounds_plain n inv f).each part t (subst (Proper n) (sym at.list) h.proper) e) s)
 
 -- ---- the rule looks at the clocks and the target only
 module _ (m : Model) (room : ℕ) where
@@ -146,7 +120,7 @@ module _ (m : Model) (room : ℕ) where
   keep_aimed s w = refl
 
   -- state 0 is kept where nothing was
-  pub root_does : {n k t : ℕ} {before middle : List ℤ} {r : Moved} (area l : List ℤ) (parent edge : ℤ)
+  pub root_does : {n k t : ℕ} {before middle : List ℤ} {r : Answered} (area l : List ℤ) (parent edge : ℤ)
       → parent ≡ negsuc 0 → edge ≡ negsuc 0
       → Does n room k t (keep (aimed m.clocks goal) room (state m.initial parent edge l)
       (walk_in m.clocks (tally 0 0) area)) before r middle
@@ -200,10 +174,3 @@ module _ (m : Model) (room : ℕ) where
         → going (walk_in n y area) ≡ try_edge S room i e (walk_in n y area)
     try_stays h = sym (try_is i e (walk_in n y area) (edge_of n E) (state_in n area i) is here
         ∙ rw (ne_eqb E.source (state_in n area i).location h))
-
--- the same answer and area
-pub does_same : {n room k t : ℕ} {o : Outcome} {before : List ℤ} {r q : Moved} {after last : List ℤ} → r ≡ q → after ≡ last
-    → Does n room k t o before q last → Does n room k t o before r after
-does_same {n} {room} {k} {t} {o} {before} {r} {q} {after} {last} e f d =
-    subst (λ (r : Moved). Does n room k t o before r after) (sym e)
-    (subst (λ (a : List ℤ). Does n room k t o before q a) (sym f) d)

@@ -1,5 +1,6 @@
 -- Keeping and judging a candidate: the answer of code is the outcome of the rule.
-use mathlib.Core.Bool.{Bool, true, false, ◌||◌, cond}
+use Rattle.std.proofs.Common.{Err, Ok}
+use mathlib.Core.Bool.{Bool, true, false, ◌||◌, cond, not}
 use mathlib.Core.List.{List, [], ◌∷◌}
 use mathlib.Core.Path.{◌≡◌, refl, sym, ap, ◌∙◌, subst}
 use Prim.Native.Nat.{ℕ, suc, ◌+◌, ◌*◌, ◌≤◌, ◌<◌}
@@ -14,16 +15,15 @@ use Rattle.runs.specs.Rule.{Step, made, stop, State, is_empty, covered, cut_all,
 use Rattle.runs.specs.Rule.{keeping, tested, test, keep, judge}
 use Rattle.model.specs.Plain.{bounds_of}
 use Rattle.steps.specs.Steps.{Listed, meets_by}
-use Rattle.sets.specs.declared.Told.{Told}
-use Rattle.sets.specs.declared.Told.TheVariants.{Yes, No}
+use Rattle.sets.specs.Types.{Told}
 use Rattle.area.specs.Area.{record_size}
-use Rattle.area.specs.Records.{kept, state, states_in, Recorded, Keepable}
+use Rattle.area.specs.Records.{kept, state, states_in, Recorded}
 use Rattle.area.proofs.RecordLaws.{row_in}
 use Rattle.area.proofs.KeepLaws.{states_new, states_many, recorded_new, kept_behind}
 use Rattle.walk.specs.declared.Tally.{Tally}
 use Rattle.walk.specs.declared.Goal.{Goal}
-use Rattle.walk.specs.declared.Moved.{Moved}
-use Rattle.walk.specs.declared.Moved.TheVariants.{Going, Stopped}
+use Rattle.walk.specs.Control.{Answered}
+use Rattle.walk.specs.declared.Moved.TheVariants.{Going}
 use Rattle.walk.specs.Control.{tally, walk_in, outcome_in, Ready, Grows, GrowsBy, Does, aimed, met_by, tested_by}
 
 -- ---- nothing is done
@@ -35,7 +35,7 @@ stays n room y area t h r =
 
 -- the walk goes on as it is
 pub goes_on : {n room t : ℕ} {y : Tally} {area : List ℤ} {o : Outcome} → y.tried ≤ t → Ready n room y area
-    → going (walk_in n y area) ≡ o → Does n room y.kept t o area (Going y) area
+    → going (walk_in n y area) ≡ o → Does n room y.kept t o area (Ok (Going y)) area
 goes_on {n} {room} {t} {y} {area} h r e = record { is = e; grows = stays n room y area t h r }
 
 -- ---- the target test
@@ -49,12 +49,12 @@ module _ (n : ℕ) (goal : Goal) (q : ℕ) (parent edge : ℤ) (l : List ℤ) (y
       w : Walk
       w = walk_in n y area
 
-      told : (b : Bool) → outcome_in n (met_by (cond b No Yes) y) area ≡ cond b (going w) (met w)
+      told : (b : Bool) → outcome_in n (met_by (Ok (not b)) y) area ≡ cond b (going w) (met w)
       told true = refl
       told false = refl
 
       by : (b : Bool) (o : Step)
-          → outcome_in n (cond b (met_by (meets_by o) y) (Going y)) area ≡ cond b (tested w o) (going w)
+          → outcome_in n (cond b (met_by (meets_by o) y) (Ok (Going y))) area ≡ cond b (tested w o) (going w)
       by false o = refl
       by true (made t) = told (is_empty t)
       by true (stop e) = refl
@@ -65,24 +65,24 @@ module _ (n : ℕ) (goal : Goal) (q : ℕ) (parent edge : ℤ) (l : List ℤ) (y
   unfolding tested_by
   tested_grows {room} {k} {t} {before} g = by (eqb q goal.location) (cut_all n (bounds_of n goal.list) l)
     where
-      told : (b : Bool) → GrowsBy n room k t before (met_by (cond b No Yes) y) area
+      told : (b : Bool) → GrowsBy n room k t before (met_by (Ok (not b)) y) area
       told true = g
       told false = g
 
-      by : (b : Bool) (o : Step) → GrowsBy n room k t before (cond b (met_by (meets_by o) y) (Going y)) area
+      by : (b : Bool) (o : Step) → GrowsBy n room k t before (cond b (met_by (meets_by o) y) (Ok (Going y))) area
       by false o = g
       by true (made t) = told (is_empty t)
       by true (stop e) = tt
 
 -- as code asks it
-pub tested_meets : (n : ℕ) (goal : Goal) (q : ℕ) (l : List ℤ) (y : Tally) (told : Told) (r : Moved) → q ≡ goal.location
-    → told ≡ meets_by (cut_all n (bounds_of n goal.list) l) → r ≡ met_by told y → r ≡ tested_by n goal q l y
+pub tested_meets : (n : ℕ) (goal : Goal) (q : ℕ) (l : List ℤ) (y : Tally) {told : Told} → q ≡ goal.location
+    → told ≡ meets_by (cut_all n (bounds_of n goal.list) l) → met_by told y ≡ tested_by n goal q l y
 unfolding tested_by
-tested_meets n goal q l y told r h e f = rw (eq-eqb q goal.location h, ← e) f
+tested_meets n goal q l y h e = rw (eq-eqb q goal.location h, ← e)
 
 -- a state of another location is not tested
 pub tested_not : (n : ℕ) (goal : Goal) (q : ℕ) (l : List ℤ) (y : Tally) → ¬ (q ≡ goal.location)
-    → Going y ≡ tested_by n goal q l y
+    → Ok (Going y) ≡ tested_by n goal q l y
 unfolding tested_by
 tested_not n goal q l y h = rw (ne_eqb q goal.location h)
 
@@ -112,15 +112,6 @@ module _ (n room : ℕ) (y : Tally) (area : List ℤ) (goal : Goal) (q : ℕ) (p
   inside : k < room → suc k * record_size n ≤ length area
   inside h = row_in (record_size n) h ready.fits
 
-  -- it may be
-  pub keepable : k < room → q < 32 → Keepable n area k q l
-  keepable h b = record {
-    clocks = listed.clocks.few;
-    room = inside h;
-    inside = omega arith;
-    whole = listed.proper.whole;
-  }
-
   more : (after : List ℤ) → k < room → after ≡ kept n area k s → walk_in n (tally (k + 1) y.tried) after
       ≡ keeping s (walk_in n y area)
   more after h e = ap (λ (ss : List State). record { kept = ss; tried = y.tried })
@@ -140,22 +131,22 @@ module _ (n room : ℕ) (y : Tally) (area : List ℤ) (goal : Goal) (q : ℕ) (p
   }
 
   -- there is room: its record is written, and it is tested
-  pub store_does : (after : List ℤ) (r : Moved) → length after ≡ length area → k < room → after ≡ kept n area k s
+  pub store_does : (after : List ℤ) (r : Answered) → length after ≡ length area → k < room → after ≡ kept n area k s
       → r ≡ tested_by n goal q l (tally (k + 1) y.tried)
       → Does n room k y.tried (keep (aimed n goal) room s (walk_in n y area)) area r after
   unfolding keep
   store_does after r long h e f = record {
-    is = ap (λ (r : Moved). outcome_in n r after) f
+    is = ap (λ (r : Answered). outcome_in n r after) f
         ∙ (tested_is n goal q parent edge l (tally (k + 1) y.tried) after
         ∙ (ap (test (aimed n goal) s) (more after h e)
         ∙ sym (rw (states_many n k area, lt-ltb k room h))));
-    grows = subst (λ (r : Moved). GrowsBy n room k y.tried area r after) (sym f)
+    grows = subst (λ (r : Answered). GrowsBy n room k y.tried area r after) (sym f)
         (tested_grows n goal q parent edge l (tally (k + 1) y.tried) after (grown after long h e));
   }
 
   -- there is none
   pub store_full : room ≤ k
-      → Does n room k y.tried (keep (aimed n goal) room s (walk_in n y area)) area (Stopped Room) area
+      → Does n room k y.tried (keep (aimed n goal) room s (walk_in n y area)) area (Err Room) area
   unfolding keep
   store_full h = record { is = sym (rw (states_many n k area, le-ltb k room h)); grows = tt }
 
@@ -178,6 +169,6 @@ module _ (n room : ℕ) (y : Tally) (area : List ℤ) (goal : Goal) (q : ℕ) (p
   judge_kept r z e h = sym (rw (full_list l z, sym e ∙ h))
 
 -- another name for the outcome
-pub does_as : {n room k t : ℕ} {o p : Outcome} {before : List ℤ} {r : Moved} {after : List ℤ} → o ≡ p
+pub does_as : {n room k t : ℕ} {o p : Outcome} {before : List ℤ} {r : Answered} {after : List ℤ} → o ≡ p
     → Does n room k t o before r after → Does n room k t p before r after
 does_as e d = record { is = d.is ∙ e; grows = d.grows }

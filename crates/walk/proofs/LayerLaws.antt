@@ -1,4 +1,5 @@
 -- Layer after layer: the verdict of code is that of the rule's ending.
+use Rattle.std.proofs.Common.{Err, Ok}
 use mathlib.Core.List.{List, ◌++◌}
 use mathlib.Core.Path.{◌≡◌, refl, sym, ap, ◌∙◌, subst}
 use Prim.Native.Nat.{ℕ, suc, ◌+◌, ◌-◌, ◌*◌, ◌≤◌, ◌<◌}
@@ -8,10 +9,12 @@ use native.Mathlib.Omega.{arith}
 use lib.IntN.{ℤ}
 use lib.ListN.{length, drop}
 use borrow.Author.Tests.{eq-eqb, ne_eqb}
+use Rattle.std.specs.Result.{IsErrAnd}
+use Rattle.std.proofs.lemmas.Result.{err_from_is_err_and}
 use Rattle.numbers.specs.declared.Refusal.{Refusal}
 use Rattle.runs.specs.Models.{System}
-use Rattle.runs.specs.declared.Verdict.{Verdict}
-use Rattle.runs.specs.declared.Verdict.TheVariants.{Reached, Never, Open, Refused}
+use Rattle.runs.specs.Verdicts.{Judged}
+use Rattle.runs.specs.declared.Verdict.TheVariants.{Reached, Never, Open}
 use Rattle.runs.specs.Rule.{State, Walk, Outcome, going, met, last_path, nothing, keep, layer, zeroth}
 use Rattle.runs.specs.Rule.{Ending, ends_reached, ends_never, ends_open, ends_refused, answer_of, after, begun, layers}
 use Rattle.runs.proofs.Loops.{Ends, goes, meets, stops}
@@ -21,7 +24,7 @@ use Rattle.area.specs.Records.{states_in}
 use Rattle.area.proofs.KeepLaws.{states_many, holding_is}
 use Rattle.walk.specs.declared.Tally.{Tally}
 use Rattle.walk.specs.declared.Moved.{Moved}
-use Rattle.walk.specs.declared.Moved.TheVariants.{Going, Met, Stopped}
+use Rattle.walk.specs.declared.Moved.TheVariants.{Going, Met}
 use Rattle.walk.specs.Control.{walk_in, outcome_in, Grows, GrowsBy, Does, Left, LeftBy, Finds, ended_by}
 use Rattle.walk.proofs.Turns.{grows_on, drop_more}
 
@@ -36,42 +39,42 @@ module _ {n room k t : ℕ} {first area : List ℤ} {y : Tally} (g : Grows n roo
   -- REACHED, with the length of the path
   pub finds_reached : {depth d : ℕ} {whole : Ending} → ends_reached (walk_in n y area) ≡ whole
       → length (last_path (states_in n y.kept area)) ≡ d
-      → Finds n k depth whole first (Reached d y.kept y.tried) area
-  finds_reached {depth} {d} e p = subst (λ w. Finds n k depth w first (Reached d y.kept y.tried) area) e (record {
+      → Finds n k depth whole first (Ok (Reached d y.kept y.tried)) area
+  finds_reached {depth} {d} e p = subst (λ w. Finds n k depth w first (Ok (Reached d y.kept y.tried)) area) e (record {
     is = unfold answer_of in rw (p, states_many n y.kept area);
     left = left;
   })
 
   -- NEVER
   pub finds_never : {depth : ℕ} {whole : Ending} → ends_never (walk_in n y area) ≡ whole
-      → Finds n k depth whole first (Never y.kept y.tried) area
-  finds_never {depth} e = subst (λ w. Finds n k depth w first (Never y.kept y.tried) area) e (record {
+      → Finds n k depth whole first (Ok (Never y.kept y.tried)) area
+  finds_never {depth} e = subst (λ w. Finds n k depth w first (Ok (Never y.kept y.tried)) area) e (record {
     is = unfold answer_of in rw (states_many n y.kept area);
     left = left;
   })
 
   -- OPEN
   pub finds_open : {depth : ℕ} {whole : Ending} → ends_open (walk_in n y area) ≡ whole
-      → Finds n k depth whole first (Open depth y.kept y.tried) area
-  finds_open {depth} e = subst (λ w. Finds n k depth w first (Open depth y.kept y.tried) area) e (record {
+      → Finds n k depth whole first (Ok (Open depth y.kept y.tried)) area
+  finds_open {depth} e = subst (λ w. Finds n k depth w first (Ok (Open depth y.kept y.tried)) area) e (record {
     is = unfold answer_of in rw (states_many n y.kept area);
     left = left;
   })
 
 -- a refusal
 pub finds_refused : {n k depth : ℕ} {e : Refusal} {whole : Ending} {first area : List ℤ} → ends_refused e ≡ whole
-    → Finds n k depth whole first (Refused e) area
+    → Finds n k depth whole first (Err e) area
 finds_refused {n} {k} {depth} {e} {whole} {first} {area} q =
-    subst (λ w. Finds n k depth w first (Refused e) area) q (record { is = unfold answer_of in refl; left = tt })
+    subst (λ w. Finds n k depth w first (Err e) area) q (record { is = unfold answer_of in refl; left = tt })
 
 -- the same verdict
-pub finds_same : {n k depth : ℕ} {whole : Ending} {first area : List ℤ} {v u : Verdict} → v ≡ u
+pub finds_same : {n k depth : ℕ} {whole : Ending} {first area : List ℤ} {v u : Judged} → v ≡ u
     → Finds n k depth whole first u area → Finds n k depth whole first v area
 finds_same {n} {k} {depth} {whole} {first} {area} e f =
-    subst (λ (v : Verdict). Finds n k depth whole first v area) (sym e) f
+    subst (λ (v : Judged). Finds n k depth whole first v area) (sym e) f
 
 -- another name for the ending
-pub finds_as : {n k depth : ℕ} {o p : Ending} {first area : List ℤ} {v : Verdict} → o ≡ p
+pub finds_as : {n k depth : ℕ} {o p : Ending} {first area : List ℤ} {v : Judged} → o ≡ p
     → Finds n k depth o first v area → Finds n k depth p first v area
 finds_as {n} {k} {depth} {o} {p} {first} {area} {v} e f =
     subst (λ (w : Ending). Finds n k depth w first v area) e f
@@ -88,11 +91,9 @@ layers_none S room depth d b w h =
     let q : depth - d ≡ 0 = omega arith in
     ap (λ (m : ℕ). layers S room m b w) q ∙ unfold layers in refl
 
--- all layers are left before the first
-pub layers_first : (S : System) (room depth : ℕ) (w : Walk) → layers S room (depth - 0) 0 w ≡ layers S room depth 0 w
-layers_first S room depth w =
-    let q : depth - 0 ≡ depth = omega arith in
-    ap (λ (m : ℕ). layers S room m 0 w) q
+-- what goes on has kept nothing, if it says so
+pub still : {a : Moved} {z : Tally} {k : ℕ} → a ≡ Going z → z.kept ≡ k → (x : Tally) → a ≡ Going x → x.kept ≡ k
+still {z = z} e h x f = let q : x ≡ z = cc in ap (λ (t : Tally). t.kept) q ∙ h
 
 -- before layer d + 1: the last layer begins with state b, and d edges lead to its states
 pub record Layering (S : System) (n room k depth d b : ℕ) (whole : Ending) (first : List ℤ) (y : Tally) (area : List ℤ)
@@ -122,53 +123,55 @@ module _ {S : System} {n room k depth d b : ℕ} {whole : Ending} {first area : 
   many = states_many n y.kept area
 
   -- the depth is reached
-  pub layering_open : depth ≤ d → Finds n k depth whole first (Open depth y.kept y.tried) area
+  pub layering_open : depth ≤ d → Finds n k depth whole first (Ok (Open depth y.kept y.tried)) area
   layering_open h = finds_open g.grows (sym (layers_none S room depth d b w h) ∙ g.left)
 
-  module _ {r : Moved} {last : List ℤ} (h : d < depth)
-      (does : Does n room y.kept (y.kept * 64) (layer S room b w) area r last) where
-    rest : after (length w.kept) (layers S room (depth - (d + 1)) (length w.kept)) (layer S room b w) ≡ whole
-    rest = sym (layers_step S room depth d b w h) ∙ g.left
+  abbrev next : Walk → Ending
+  next = layers S room (depth - (d + 1)) (length w.kept)
 
-    went : {z : Tally} → r ≡ Going z → Grows n room y.kept (y.kept * 64) area z last
-    went e = subst (λ (r : Moved). GrowsBy n room y.kept (y.kept * 64) area r last) e does.grows
+  -- the layer made an outcome
+  rest : {o : Outcome} → d < depth → o ≡ layer S room b w → after (length w.kept) next o ≡ whole
+  rest h q = ap (after (length w.kept) next) q ∙ (sym (layers_step S room depth d b w h) ∙ g.left)
 
-    is : {z : Tally} → r ≡ Going z → going (walk_in n z last) ≡ layer S room b w
-    is e = ap (λ (r : Moved). outcome_in n r last) (sym e) ∙ does.is
-
+  module _ {a : Moved} {last : List ℤ} (h : d < depth)
+      (does : Does n room y.kept (y.kept * 64) (layer S room b w) area (Ok a) last) where
     -- it kept something: the next layer
-    pub layering_on : {z : Tally} → r ≡ Going z → ¬ (z.kept ≡ y.kept)
+    pub layering_on : {z : Tally} → a ≡ Going z → ¬ (z.kept ≡ y.kept)
         → Layering S n room k depth (d + 1) y.kept whole first z last
     layering_on {z} e f = record {
-      grows = grows_on g.grows (went e);
-      inside = (went e).more;
+      grows = grows_on g.grows went;
+      inside = went.more;
       deep = rw (add-one d) (subst (λ (m : ℕ). Layer m (suc d) (states_in n z.kept last)) many
-          (going_deep (layer_deep S room b d w g.deep) (is e)));
+          (going_deep (layer_deep S room b d w g.deep) is));
       left = sym (ap (λ (m : ℕ). layers S room (depth - (d + 1)) m (walk_in n z last)) many)
-          ∙ (sym (rw (states_many n z.kept last, many, ne_eqb z.kept y.kept f))
-          ∙ (ap (after (length w.kept) (layers S room (depth - (d + 1)) (length w.kept))) (is e) ∙ rest));
+          ∙ (sym (rw (states_many n z.kept last, many, ne_eqb z.kept y.kept f)) ∙ rest h is);
     }
-
-    -- it kept nothing
-    pub layering_never : {z : Tally} → r ≡ Going z → z.kept ≡ y.kept
-        → Finds n k depth whole first (Never z.kept z.tried) last
-    layering_never {z} e f = finds_never (grows_on g.grows (went e))
-        (sym (rw (states_many n z.kept last, many, eq-eqb z.kept y.kept f))
-        ∙ (ap (after (length w.kept) (layers S room (depth - (d + 1)) (length w.kept))) (is e) ∙ rest))
-
-    -- it met the target, or was refused
-    pub layering_ends : ((z : Tally) → ¬ (r ≡ Going z)) → Finds n k depth whole first (ended_by r (d + 1)) last
-    layering_ends f = by r f does.is does.grows
       where
-        next : Walk → Ending
-        next = layers S room (depth - (d + 1)) (length w.kept)
+        went : Grows n room y.kept (y.kept * 64) area z last
+        went = subst (λ (a : Moved). GrowsBy n room y.kept (y.kept * 64) area (Ok a) last) e does.grows
 
-        by : (r : Moved) → ((z : Tally) → ¬ (r ≡ Going z)) → outcome_in n r last ≡ layer S room b w
-            → GrowsBy n room y.kept (y.kept * 64) area r last → Finds n k depth whole first (ended_by r (d + 1)) last
-        by (Going z) f q u = absurd (f z refl)
-        by (Met z) f q u = finds_reached (grows_on g.grows u) (ap (after (length w.kept) next) q ∙ rest)
+        is : going (walk_in n z last) ≡ layer S room b w
+        is = ap (λ (a : Moved). outcome_in n (Ok a) last) (sym e) ∙ does.is
+
+    -- it kept nothing, or met the target
+    pub layering_ends : ((z : Tally) → a ≡ Going z → z.kept ≡ y.kept)
+        → Finds n k depth whole first (Ok (ended_by a (d + 1))) last
+    layering_ends f = by a f does.is does.grows
+      where
+        by : (a : Moved) → ((z : Tally) → a ≡ Going z → z.kept ≡ y.kept) → outcome_in n (Ok a) last ≡ layer S room b w
+            → GrowsBy n room y.kept (y.kept * 64) area (Ok a) last
+            → Finds n k depth whole first (Ok (ended_by a (d + 1))) last
+        by (Going z) f q u = finds_never (grows_on g.grows u)
+            (sym (rw (states_many n z.kept last, many, eq-eqb z.kept y.kept (f z refl))) ∙ rest h q)
+        by (Met z) f q u = finds_reached (grows_on g.grows u) (rest h q)
             (met_deep (layer_deep S room b d w g.deep) q ∙ sym (add-one d))
-        by (Stopped x) f q u = finds_refused (ap (after (length w.kept) next) q ∙ rest)
+
+  -- it was refused
+  pub layering_refused : {e : Refusal} {v : Judged} {last : List ℤ} → d < depth
+      → Does n room y.kept (y.kept * 64) (layer S room b w) area (Err e) last → IsErrAnd v (λ f. f ≡ e)
+      → Finds n k depth whole first v last
+  layering_refused {e} {v} h does up =
+      let p = err_from_is_err_and v up in rw (p.1, p.2) (finds_refused (rest h does.is))
 
 -- ---- state 0
 holding_more : (n k : ℕ) (kept : List State) (l m : List ℤ) → k ≤ length kept
@@ -177,24 +180,24 @@ unfolding holding
 holding_more n k kept l m h e = ap (λ (x : List ℤ). records_of n kept ++ x)
     (drop_more (k * record_size n) (length kept * record_size n) l m (mul-le-mul_right (record_size n) h) e)
 
-module _ (S : System) (n room depth : ℕ) (l : List ℤ) {before middle : List ℤ} {r : Moved}
-    (does : Does n room 0 0 (keep S room (zeroth S l) nothing) before r middle) where
+module _ (S : System) (n room depth : ℕ) (l : List ℤ) {before middle : List ℤ} {a : Moved}
+    (does : Does n room 0 0 (keep S room (zeroth S l) nothing) before (Ok a) middle) where
   abbrev whole : Ending
   whole = begun (layers S room depth 0) (keep S room (zeroth S l) nothing)
 
-  root_is : {z : Tally} → r ≡ Going z → going (walk_in n z middle) ≡ keep S room (zeroth S l) nothing
-  root_is e = ap (λ (r : Moved). outcome_in n r middle) (sym e) ∙ does.is
+  root_is : {z : Tally} → a ≡ Going z → going (walk_in n z middle) ≡ keep S room (zeroth S l) nothing
+  root_is e = ap (λ (a : Moved). outcome_in n (Ok a) middle) (sym e) ∙ does.is
 
   -- state 0 was kept
-  pub root_went : {z : Tally} → r ≡ Going z → Grows n room 0 0 before z middle
-  root_went e = subst (λ (r : Moved). GrowsBy n room 0 0 before r middle) e does.grows
+  pub root_went : {z : Tally} → a ≡ Going z → Grows n room 0 0 before z middle
+  root_went e = subst (λ (a : Moved). GrowsBy n room 0 0 before (Ok a) middle) e does.grows
 
   -- it is layer 0
-  pub root_deep : {z : Tally} → r ≡ Going z → Layer 0 0 (states_in n z.kept middle)
+  pub root_deep : {z : Tally} → a ≡ Going z → Layer 0 0 (states_in n z.kept middle)
   root_deep e = going_deep (first_deep S room l) (root_is e)
 
   -- the layers go on from it
-  pub root_on : {z : Tally} {v : Verdict} {last : List ℤ} → r ≡ Going z
+  pub root_on : {z : Tally} {v : Judged} {last : List ℤ} → a ≡ Going z
       → Finds n z.kept depth (layers S room depth 0 (walk_in n z middle)) middle v last
       → Finds n 0 depth whole before v last
   root_on {z} {v} {last} e f = subst (λ (w : Ending). Finds n 0 depth w before v last)
@@ -216,12 +219,18 @@ module _ (S : System) (n room depth : ℕ) (l : List ℤ) {before middle : List 
       by (ends_open w) h = on w.kept h
       by (ends_refused x) h = tt
 
-  -- it met the target, or was refused
-  pub root_ends : ((z : Tally) → ¬ (r ≡ Going z)) → Finds n 0 depth whole before (ended_by r 0) middle
-  root_ends f = by r f does.is does.grows
+  -- it met the target
+  pub root_met : ((z : Tally) → ¬ (a ≡ Going z)) → Finds n 0 depth whole before (Ok (ended_by a 0)) middle
+  root_met f = by a f does.is does.grows
     where
-      by : (r : Moved) → ((z : Tally) → ¬ (r ≡ Going z)) → outcome_in n r middle ≡ keep S room (zeroth S l) nothing
-          → GrowsBy n room 0 0 before r middle → Finds n 0 depth whole before (ended_by r 0) middle
+      by : (a : Moved) → ((z : Tally) → ¬ (a ≡ Going z)) → outcome_in n (Ok a) middle ≡ keep S room (zeroth S l) nothing
+          → GrowsBy n room 0 0 before (Ok a) middle → Finds n 0 depth whole before (Ok (ended_by a 0)) middle
       by (Going z) f q u = absurd (f z refl)
       by (Met z) f q u = finds_reached u (ap (begun (layers S room depth 0)) q) (met_deep (first_deep S room l) q)
-      by (Stopped x) f q u = finds_refused (ap (begun (layers S room depth 0)) q)
+
+-- it was refused
+pub root_refused : (S : System) (n room depth : ℕ) (l : List ℤ) {before middle : List ℤ} {e : Refusal} {v : Judged}
+    → Does n room 0 0 (keep S room (zeroth S l) nothing) before (Err e) middle → IsErrAnd v (λ f. f ≡ e)
+    → Finds n 0 depth (begun (layers S room depth 0) (keep S room (zeroth S l) nothing)) before v middle
+root_refused S n room depth l {v = v} does up =
+    let p = err_from_is_err_and v up in rw (p.1, p.2) (finds_refused (ap (begun (layers S room depth 0)) does.is))

@@ -1,4 +1,5 @@
 -- What the walk's contract settles: the verdict and every word, stability at more depth and room, and the counts.
+use Rattle.std.proofs.Common.{Err, Ok}
 use mathlib.Core.List.{List}
 use mathlib.Core.Path.{◌≡◌, refl, sym, ap, ◌∙◌, subst}
 use Prim.Native.Nat.{ℕ, ◌*◌, ◌≤◌, ◌<◌}
@@ -13,8 +14,8 @@ use Rattle.codec.specs.Arrays.{AreBytes}
 use Rattle.runs.specs.Closure.{Closed}
 use Rattle.runs.specs.Rule.{State, Ending, ends_reached, ends_never, ends_open, ends_refused, kept_by, last_path, walk_of, answer_of}
 use Rattle.runs.specs.Verdicts.{Answer, reached, never, open_to, refused, answer_by, Means}
-use Rattle.runs.specs.declared.Verdict.{Verdict}
-use Rattle.runs.specs.declared.Verdict.TheVariants.{Reached, Never, Open, Refused}
+use Rattle.runs.specs.Verdicts.{Judged}
+use Rattle.runs.specs.declared.Verdict.TheVariants.{Reached, Never, Open}
 use Rattle.runs.proofs.Counts.{EndsOrderly, walk_orderly}
 use Rattle.runs.proofs.Covering.{closed_alike}
 use Rattle.runs.proofs.Meaning.{walk_sound, walk_closed}
@@ -41,14 +42,14 @@ areas : {a b : Walked} → a ≡ b → a.area ≡ b.area
 areas e = ap (λ w. w.area) e
 
 -- two verdicts and two exit areas that the contract allows are equal
-pub walk_settled : (s : List ℕ) (before : List ℤ) (v u : Verdict) (after last : List ℤ) → Walks s before v after
+pub walk_settled : (s : List ℕ) (before : List ℤ) (v u : Judged) (after last : List ℤ) → Walks s before v after
     → Walks s before u last → (v ≡ u) × (after ≡ last)
 walk_settled s before v u after last a b =
     let e = a.rule ∙ sym b.rule in
     (verdict_settled v u (answers e), areas e)
 
 -- the contract of walking a model settles verdict and area
-pub model_settled : (m : Model) (before : List ℤ) (v u : Verdict) (after last : List ℤ) → WalksModel m before v after
+pub model_settled : (m : Model) (before : List ℤ) (v u : Judged) (after last : List ℤ) → WalksModel m before v after
     → WalksModel m before u last → (v ≡ u) × (after ≡ last)
 model_settled m before v u after last a b =
     let e = a.rule ∙ sym b.rule in
@@ -56,11 +57,11 @@ model_settled m before v u after last a b =
 
 -- ---- a verdict that is no refusal: the area has a record, and the walk has an ending
 -- REACHED or NEVER
-abbrev pub Certain : Verdict → Type 0
-Certain (Reached d k t) = Unit {0}
-Certain (Never k t) = Unit {0}
-Certain (Open d k t) = ⊥
-Certain (Refused e) = ⊥
+abbrev pub Certain : Judged → Type 0
+Certain (Ok (Reached d k t)) = Unit {0}
+Certain (Ok (Never k t)) = Unit {0}
+Certain (Ok (Open d k t)) = ⊥
+Certain (Err e) = ⊥
 
 module _ (m : Model) (before : List ℤ) where
   abbrev n : ℕ
@@ -78,18 +79,18 @@ module _ (m : Model) (before : List ℤ) where
   unfolding walked_of
   small_walk h = rw (lt-ltb (length before) (record_size n) h)
 
-  module _ (s : List ℕ) (read : read_of s ≡ value m) (v : Verdict) (after : List ℤ) (w : Walks s before v after) where
+  module _ (s : List ℕ) (read : read_of s ≡ value m) (v : Judged) (after : List ℤ) (w : Walks s before v after) where
     told : record { answer = answer_by v; area = after } ≡ walked_of (value m) before
     told = w.rule ∙ ap (λ r. walked_of r before) read
 
     certain_big : Certain v → record_size n ≤ length before
     certain_big c = by (dec_lt (length before) (record_size n))
       where
-        none : (v : Verdict) → Certain v → answer_by v ≡ refused (refusal_number Shape) → ⊥
-        none (Reached d k t) c e = let z : ◌≡◌ {A = ℕ} 0 1 = cc in omega arith
-        none (Never k t) c e = let z : ◌≡◌ {A = ℕ} 0 1 = cc in omega arith
-        none (Open d k t) c e = c
-        none (Refused x) c e = c
+        none : (v : Judged) → Certain v → answer_by v ≡ refused (refusal_number Shape) → ⊥
+        none (Ok (Reached d k t)) c e = let z : ◌≡◌ {A = ℕ} 0 1 = cc in omega arith
+        none (Ok (Never k t)) c e = let z : ◌≡◌ {A = ℕ} 0 1 = cc in omega arith
+        none (Ok (Open d k t)) c e = c
+        none (Err x) c e = c
 
         by : Dec (length before < record_size n) → record_size n ≤ length before
         by (yes h) = absurd (none v c (answers (told ∙ small_walk h)))
@@ -105,17 +106,17 @@ module _ (m : Model) (before : List ℤ) where
     unfolding answer_of
     final h c = by v c (ending_of m before) (ended h)
       where
-        by : (v : Verdict) → Certain v → (o : Ending) → answer_by v ≡ answer_of m.depth o → Final o
+        by : (v : Judged) → Certain v → (o : Ending) → answer_by v ≡ answer_of m.depth o → Final o
         by v c (ends_reached w) e = tt
         by v c (ends_never w) e = tt
-        by (Reached d k t) c (ends_open w) e = let z : ◌≡◌ {A = ℕ} 0 1 = cc in omega arith
-        by (Never k t) c (ends_open w) e = let z : ◌≡◌ {A = ℕ} 0 1 = cc in omega arith
-        by (Open d k t) c (ends_open w) e = c
-        by (Refused x) c (ends_open w) e = c
-        by (Reached d k t) c (ends_refused f) e = let z : ◌≡◌ {A = ℕ} 0 1 = cc in omega arith
-        by (Never k t) c (ends_refused f) e = let z : ◌≡◌ {A = ℕ} 0 1 = cc in omega arith
-        by (Open d k t) c (ends_refused f) e = c
-        by (Refused x) c (ends_refused f) e = c
+        by (Ok (Reached d k t)) c (ends_open w) e = let z : ◌≡◌ {A = ℕ} 0 1 = cc in omega arith
+        by (Ok (Never k t)) c (ends_open w) e = let z : ◌≡◌ {A = ℕ} 0 1 = cc in omega arith
+        by (Ok (Open d k t)) c (ends_open w) e = c
+        by (Err x) c (ends_open w) e = c
+        by (Ok (Reached d k t)) c (ends_refused f) e = let z : ◌≡◌ {A = ℕ} 0 1 = cc in omega arith
+        by (Ok (Never k t)) c (ends_refused f) e = let z : ◌≡◌ {A = ℕ} 0 1 = cc in omega arith
+        by (Ok (Open d k t)) c (ends_refused f) e = c
+        by (Err x) c (ends_refused f) e = c
 
 -- ---- the rule meets the contract
 -- what the rule's answer says of runs, with the path that its area shows
@@ -133,7 +134,7 @@ walked_means m h before = by (dec_lt (length before) (record_size m.clocks))
         (shown_means m h (room_of m.clocks before) before (ending_of m before) refl)
 
 -- an answer and an area that are the rule's meet the contract
-pub walk_meets : (s : List ℕ) → AreBytes s → (before : List ℤ) (v : Verdict) (after : List ℤ)
+pub walk_meets : (s : List ℕ) → AreBytes s → (before : List ℤ) (v : Judged) (after : List ℤ)
     → record { answer = answer_by v; area = after } ≡ walked_of (read_of s) before → Walks s before v after
 walk_meets s bytes before v after rule = record {
   rule = rule;
@@ -152,7 +153,7 @@ walk_meets s bytes before v after rule = record {
 pub walk_stable : (s s' : List ℕ) (m : Model) (depth : ℕ) → AreBytes s → AreBytes s' → read_of s ≡ value m
     → read_of s' ≡ value (with_depth m depth) → m.depth ≤ depth
     → (before before' : List ℤ) → room_of m.clocks before ≤ room_of m.clocks before'
-    → (v v' : Verdict) (after after' : List ℤ) → Walks s before v after → Walks s' before' v' after' → Certain v
+    → (v v' : Judged) (after after' : List ℤ) → Walks s before v after → Walks s' before' v' after' → Certain v
     → (v' ≡ v)
     × (path_in m.clocks after' (kept_said (answer_by v')) ≡ path_in m.clocks after (kept_said (answer_by v)))
 walk_stable s s' m depth bytes bytes' read read' d before before' room v v' after after' w w' c =
@@ -199,7 +200,7 @@ tried_said (open_to depth kept tried) = tried
 tried_said (refused number) = 0
 
 -- tried is at most kept times the edges
-pub walk_counts : (s : List ℕ) (m : Model) → AreBytes s → read_of s ≡ value m → (before : List ℤ) (v : Verdict)
+pub walk_counts : (s : List ℕ) (m : Model) → AreBytes s → read_of s ≡ value m → (before : List ℤ) (v : Judged)
     (after : List ℤ) → Walks s before v after → tried_said (answer_by v) ≤ kept_said (answer_by v) * m.edges
 unfolding answer_of walk_of
 walk_counts s m bytes read before v after w = by (dec_lt (length before) (record_size m.clocks))
@@ -231,17 +232,17 @@ walk_first s k before h = ap (λ r. walked_of r before) (first_many s k h)
 -- the states in the area of a walk that ended in NEVER: the start is in them, no candidate leaves them, none meets the
 -- target
 pub never_closed_lem : (s : List ℕ) (m : Model) → AreBytes s → read_of s ≡ value m → (before : List ℤ) (k t : ℕ)
-    (after : List ℤ) → Walks s before (Never k t) after
+    (after : List ℤ) → Walks s before (Ok (Never k t)) after
     → Closed (plain m).system k (λ i. (state_in m.clocks after i).location) (λ i. (state_in m.clocks after i).list)
 unfolding answer_of area_after
 never_closed_lem s m bytes read before k t after w = by (ending_of m before) refl
-    (ended m before s read (Never k t) after w big) (left m before s read (Never k t) after w big)
+    (ended m before s read (Ok (Never k t)) after w big) (left m before s read (Ok (Never k t)) after w big)
   where
     n : ℕ
     n = m.clocks
 
     big : record_size n ≤ length before
-    big = certain_big m before s read (Never k t) after w tt
+    big = certain_big m before s read (Ok (Never k t)) after w tt
 
     ClosedIn : ℕ → List ℤ → Type 0
     ClosedIn k area = Closed (plain m).system k (λ i. (state_in n area i).location) (λ i. (state_in n area i).list)

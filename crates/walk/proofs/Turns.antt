@@ -1,6 +1,6 @@
 -- Loops of the walk: what is left of the rule from here on is the whole.
+use Rattle.std.proofs.Common.{Err, Ok}
 use mathlib.Core.List.{List}
-use mathlib.Core.Logic.{◌⊎◌, inl, inr}
 use mathlib.Core.Path.{◌≡◌, refl, sym, ap, ◌∙◌, subst}
 use Prim.Native.Nat.{ℕ, suc, ◌+◌, ◌-◌, ◌*◌, ◌≤◌, ◌<◌}
 use native.Mathlib.Nat.{mul-le-mul_right}
@@ -9,14 +9,16 @@ use native.Mathlib.Omega.{arith}
 use lib.IntN.{ℤ}
 use lib.ListN.{length, drop}
 use lib.Seq.{drop-drop}
-use denote.Enum.Declared.{tag_of}
-use Rattle.walk.specs.contracts.Moved.{the_type}
+use Rattle.std.specs.Result.{IsErrAnd}
+use Rattle.std.proofs.lemmas.Result.{err_from_is_err_and}
+use Rattle.numbers.specs.declared.Refusal.{Refusal}
 use Rattle.runs.specs.Rule.{Walk, Outcome, going, onward, in_turn}
 use Rattle.area.specs.Area.{record_size}
 use Rattle.area.specs.Records.{Recorded}
 use Rattle.walk.specs.declared.Tally.{Tally}
+use Rattle.walk.specs.Control.{Answered}
 use Rattle.walk.specs.declared.Moved.{Moved}
-use Rattle.walk.specs.declared.Moved.TheVariants.{Going, Met, Stopped}
+use Rattle.walk.specs.declared.Moved.TheVariants.{Going, Met}
 use Rattle.walk.specs.Control.{walk_in, outcome_in, Ready, Grows, GrowsBy, Does}
 
 -- ---- one part behind another
@@ -40,13 +42,13 @@ module _ {n room k t t' : ℕ} {first middle last : List ℤ} {y : Tally} (g : G
   }
 
   -- and what is done from there is done from the start
-  pub does_on : {o : Outcome} {r : Moved} → Does n room y.kept t' o middle r last → Does n room k t' o first r last
+  pub does_on : {o : Outcome} {r : Answered} → Does n room y.kept t' o middle r last → Does n room k t' o first r last
   does_on {r = r} d = record { is = d.is; grows = by r d.grows }
     where
-      by : (r : Moved) → GrowsBy n room y.kept t' middle r last → GrowsBy n room k t' first r last
-      by (Going z) h = grows_on h
-      by (Met z) h = grows_on h
-      by (Stopped e) h = tt
+      by : (r : Answered) → GrowsBy n room y.kept t' middle r last → GrowsBy n room k t' first r last
+      by (Ok (Going z)) h = grows_on h
+      by (Ok (Met z)) h = grows_on h
+      by (Err e) h = tt
 
 -- what stands afterwards is ready for the next part
 pub ready_on : {n room k t : ℕ} {first area : List ℤ} {x y : Tally} → Ready n room x first → length area ≡ length first
@@ -70,7 +72,7 @@ counted {n} {room} {x} {y} {area} r e = record {
 }
 
 -- more candidates are allowed for
-pub does_more : {n room k t t' : ℕ} {o : Outcome} {before after : List ℤ} {r : Moved} → t ≤ t'
+pub does_more : {n room k t t' : ℕ} {o : Outcome} {before after : List ℤ} {r : Answered} → t ≤ t'
     → Does n room k t o before r after → Does n room k t' o before r after
 does_more {n} {room} {k} {t} {t'} {o} {before} {after} {r} l d = record { is = d.is; grows = by r d.grows }
   where
@@ -83,10 +85,10 @@ does_more {n} {room} {k} {t} {t'} {o} {before} {after} {r} l d = record { is = d
       behind = g.behind;
     }
 
-    by : (r : Moved) → GrowsBy n room k t before r after → GrowsBy n room k t' before r after
-    by (Going z) g = more z g
-    by (Met z) g = more z g
-    by (Stopped e) g = tt
+    by : (r : Answered) → GrowsBy n room k t before r after → GrowsBy n room k t' before r after
+    by (Ok (Going z)) g = more z g
+    by (Ok (Met z)) g = more z g
+    by (Err e) g = tt
 
 -- ---- a loop over turns
 turn_step : (f : ℕ → Walk → Outcome) (m i : ℕ) (w : Walk) → i < m
@@ -112,37 +114,34 @@ pub record Turning (n room k t : ℕ) (f : ℕ → Walk → Outcome) (m i : ℕ)
 
 module _ {n room k t : ℕ} {f : ℕ → Walk → Outcome} {m i : ℕ} {whole : Outcome} {first area : List ℤ} {y : Tally}
     (g : Turning n room k t f m i whole first y area) where
+  -- the turn made an outcome
+  next_is : i < m → {o : Outcome} → o ≡ f i (walk_in n y area) → onward o (in_turn f (m - (i + 1)) (i + 1)) ≡ whole
+  next_is h q = ap (λ (o : Outcome). onward o (in_turn f (m - (i + 1)) (i + 1))) q
+      ∙ (sym (turn_step f m i (walk_in n y area) h) ∙ g.left)
+
   -- no turn is left
-  pub turns_done : m ≤ i → Does n room k t whole first (Going y) area
+  pub turns_done : m ≤ i → Does n room k t whole first (Ok (Going y)) area
   turns_done h = record { is = sym (turn_none f m i (walk_in n y area) h) ∙ g.left; grows = g.grows }
 
 module _ {n room k t t' : ℕ} {f : ℕ → Walk → Outcome} {m i : ℕ} {whole : Outcome} {first area after : List ℤ} {y : Tally}
     (g : Turning n room k t f m i whole first y area) where
   -- the turn goes on
-  pub turns_on : {z : Tally} {r : Moved} → i < m → Does n room y.kept t' (f i (walk_in n y area)) area r after
-      → r ≡ Going z → Turning n room k t' f m (i + 1) whole first z after
-  turns_on {z} {r} h d e = record {
-    grows = grows_on g.grows (subst (λ (r : Moved). GrowsBy n room y.kept t' area r after) e d.grows);
-    left = ap (λ (o : Outcome). onward o (in_turn f (m - (i + 1)) (i + 1)))
-        (ap (λ (r : Moved). outcome_in n r after) (sym e) ∙ d.is) ∙ (sym (turn_step f m i (walk_in n y area) h) ∙ g.left);
+  pub turns_on : {z : Tally} {a : Moved} → i < m → Does n room y.kept t' (f i (walk_in n y area)) area (Ok a) after
+      → a ≡ Going z → Turning n room k t' f m (i + 1) whole first z after
+  turns_on {z} {a} h d e = record {
+    grows = grows_on g.grows (subst (λ (a : Moved). GrowsBy n room y.kept t' area (Ok a) after) e d.grows);
+    left = next_is g h (ap (λ (a : Moved). outcome_in n (Ok a) after) (sym e) ∙ d.is);
   }
 
-  -- the turn ends the loop
-  pub turns_end : {r : Moved} → i < m → Does n room y.kept t' (f i (walk_in n y area)) area r after
-      → ((z : Tally) → ¬ (r ≡ Going z)) → Does n room k t' whole first r after
-  turns_end {r} h d e = does_on g.grows (record { is = same r e d.is; grows = d.grows })
-    where
-      same : (r : Moved) → ((z : Tally) → ¬ (r ≡ Going z)) → outcome_in n r after ≡ f i (walk_in n y area)
-          → outcome_in n r after ≡ whole
-      same (Going z) e q = absurd (e z refl)
-      same (Met z) e q = ap (λ (o : Outcome). onward o (in_turn f (m - (i + 1)) (i + 1))) q
-          ∙ (sym (turn_step f m i (walk_in n y area) h) ∙ g.left)
-      same (Stopped x) e q = ap (λ (o : Outcome). onward o (in_turn f (m - (i + 1)) (i + 1))) q
-          ∙ (sym (turn_step f m i (walk_in n y area) h) ∙ g.left)
+  -- the turn meets the target
+  pub turns_met : (a : Moved) → i < m → Does n room y.kept t' (f i (walk_in n y area)) area (Ok a) after
+      → ((z : Tally) → ¬ (a ≡ Going z)) → Does n room k t' whole first (Ok a) after
+  turns_met (Going z) h d e = absurd (e z refl)
+  turns_met (Met z) h d e = does_on g.grows (record { is = next_is g h d.is; grows = d.grows })
 
--- what an answer that does not go on is not
-pub not_going : (r : Moved) → (tag_of the_type r ≡ 1) ⊎ (tag_of the_type r ≡ 2) → (z : Tally) → ¬ (r ≡ Going z)
-not_going (Going y) (inl h) z e = omega (arith, h)
-not_going (Going y) (inr h) z e = omega (arith, h)
-not_going (Met y) h z e = let q : ◌≡◌ {A = ℕ} 0 1 = cc in omega arith
-not_going (Stopped x) h z e = let q : ◌≡◌ {A = ℕ} 0 1 = cc in omega arith
+  -- the turn is refused
+  pub turns_refused : {e : Refusal} {r : Answered} → i < m
+      → Does n room y.kept t' (f i (walk_in n y area)) area (Err e) after → IsErrAnd r (λ f. f ≡ e)
+      → Does n room k t' whole first r after
+  turns_refused {e} {r} h d up =
+      let p = err_from_is_err_and r up in rw (p.1, p.2) (record { is = next_is g h d.is; grows = tt })

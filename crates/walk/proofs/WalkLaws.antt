@@ -1,35 +1,30 @@
 -- The contract of the walk, from the rule's ending.
+use Rattle.std.proofs.Common.{Err, Ok}
 use mathlib.Core.List.{List}
-use mathlib.Core.Logic.{◌⊎◌, inl, inr}
 use mathlib.Core.Path.{◌≡◌, refl, sym, ap, ◌∙◌, subst}
 use Prim.Native.Nat.{ℕ, ◌≤◌, ◌<◌}
 use native.Mathlib.Omega.{arith}
 use lib.IntN.{ℤ, pos}
 use lib.ListN.{length, replicate}
 use borrow.Author.Tests.{lt-ltb, le-ltb}
-use denote.Enum.Declared.{tag_of}
+use mathlib.Core.Bool.{true, false}
+use Rattle.std.specs.Result.{is_err}
+use Rattle.std.proofs.lemmas.Bool.{false≢true}
 use Rattle.numbers.specs.declared.Refusal.{Refusal}
 use Rattle.numbers.specs.declared.Refusal.TheVariants.{Shape}
-use Rattle.codec.specs.declared.Step.{Step}
-use Rattle.codec.specs.declared.Step.TheVariants.{At, Refused as Stopped}
-use Rattle.codec.specs.contracts.Step.{the_type}
-use Rattle.codec.specs.Answers.{why_step}
 use Rattle.runs.specs.Models.{System}
 use Rattle.runs.specs.Rule.{Ending, ends_reached, ends_never, ends_open, ends_refused}
 use Rattle.runs.specs.Rule.{last_path, kept_by, walk_of, answer_of}
 use Rattle.runs.specs.Verdicts.{answer_by, SaysReached, Means}
-use Rattle.runs.specs.declared.Verdict.{Verdict}
-use Rattle.runs.specs.declared.Verdict.TheVariants.{Reached, Never, Open, Refused}
-use Rattle.runs.specs.contracts.Verdict.{the_type as the-verdict}
+use Rattle.runs.specs.Verdicts.{Judged}
 use Rattle.runs.proofs.Stable.{Final}
 use Rattle.runs.proofs.Settled.{verdict_settled}
 use Rattle.runs.proofs.Counts.{EndsOrderly, walk_orderly}
 use Rattle.runs.proofs.Meaning.{walk_means, walk_sound}
 use Rattle.model.specs.declared.Model.{Model}
 use Rattle.model.specs.Limits.{ModelLimits}
-use Rattle.model.specs.declared.Outline.{Outline}
 use Rattle.model.specs.Answers.{Said, value, refusal, read_of}
-use Rattle.model.specs.Outlines.{model_by, outline_said, ReadsOutline}
+use Rattle.model.specs.Outlines.{ReadsOutline}
 use Rattle.model.specs.Plain.{plain}
 use Rattle.model.proofs.PlainLimits.{model_plain}
 use Rattle.area.specs.Area.{record_size, room_of, area_after}
@@ -46,38 +41,21 @@ value_inj e = cc
 apart : {a : Model} {e : ℕ} → ◌≡◌ {A = Said Model} (value a) (refusal e) → ⊥
 apart q = let z : ◌≡◌ {A = ℕ} 0 1 = cc in omega arith
 
--- bytes whose outline was read stand for its model
-pub outline_value : (s : List ℕ) (step : Step) (o : Outline) (end : ℕ) → ReadsOutline s step o → step ≡ At end
-    → read_of s ≡ value (model_by s o)
-outline_value s step o end r e = sym r.said ∙ ap (λ (p : Step). outline_said s p o) e
-
 -- the bytes are refused
-pub walks_unread : (s : List ℕ) (step : Step) (o : Outline) (before : List ℤ) (e : Refusal) → ReadsOutline s step o
-    → tag_of the_type step ≡ 1 → e ≡ why_step step → Walks s before (Refused e) before
-walks_unread s (At end) o before e r z f = absurd (omega (arith, z))
-walks_unread s (Stopped x) o before e r z f = record {
-  rule = unfold walked_of in rw (← r.said, f);
+pub walks_unread : (s : List ℕ) (before : List ℤ) (e : Refusal) → ReadsOutline s (Err e) → Walks s before (Err e) before
+walks_unread s before e r = record {
+  rule = unfold walked_of in rw (← r.said);
   means = λ n q. absurd (apart (sym q ∙ sym r.said));
 }
 
 -- the bytes are those of a model
-pub walks_read : (s : List ℕ) (m : Model) (before : List ℤ) (v : Verdict) (after : List ℤ) → read_of s ≡ value m
+pub walks_read : (s : List ℕ) (m : Model) (before : List ℤ) (v : Judged) (after : List ℤ) → read_of s ≡ value m
     → WalksModel m before v after → Walks s before v after
 walks_read s m before v after e w = record {
   rule = w.rule ∙ ap (λ r. walked_of r before) (sym e);
   means = λ k q. subst (λ (k : Model). Means (plain k).system (path_in k.clocks after (kept_said (answer_by v)))
       (answer_by v)) (value_inj (sym e ∙ q)) w.means;
 }
-
--- a verdict that is no refusal
-pub not_refused : (v : Verdict)
-    → (tag_of the-verdict v ≡ 0) ⊎ (tag_of the-verdict v ≡ 1) ⊎ (tag_of the-verdict v ≡ 2) → (e : Refusal) → ¬ (v ≡ Refused e)
-not_refused (Reached d k t) h e q = let z : ◌≡◌ {A = ℕ} 0 1 = cc in omega arith
-not_refused (Never k t) h e q = let z : ◌≡◌ {A = ℕ} 0 1 = cc in omega arith
-not_refused (Open d k t) h e q = let z : ◌≡◌ {A = ℕ} 0 1 = cc in omega arith
-not_refused (Refused x) (inl h) e q = omega (arith, h)
-not_refused (Refused x) (inr (inl h)) e q = omega (arith, h)
-not_refused (Refused x) (inr (inr h)) e q = omega (arith, h)
 
 -- ---- what the model's walk says
 module _ (m : Model) (limits : ModelLimits m) where
@@ -98,13 +76,13 @@ module _ (m : Model) (limits : ModelLimits m) where
   }
 
   -- what is found in that room is what the area's ending says
-  pub found_in : {area after : List ℤ} {v : Verdict} (room : ℕ) → room ≡ room_of n area
+  pub found_in : {area after : List ℤ} {v : Judged} (room : ℕ) → room ≡ room_of n area
       → Finds n 0 m.depth (walk_of (plain m) room) area v after → Finds n 0 m.depth (ending_of m area) area v after
   found_in {area} {after} {v} room e f =
       subst (λ (r : ℕ). Finds n 0 m.depth (walk_of (plain m) r) area v after) e f
 
   -- the area is too small
-  pub walks_short : (before : List ℤ) → length before < record_size n → WalksModel m before (Refused Shape) before
+  pub walks_short : (before : List ℤ) → length before < record_size n → WalksModel m before (Err Shape) before
   walks_short before h = record {
     rule = unfold walked_of in rw (lt-ltb (length before) (record_size n) h);
     means = tt;
@@ -148,7 +126,7 @@ module _ (m : Model) (limits : ModelLimits m) where
     abbrev ending : Ending
     ending = ending_of m before
 
-    walks_by : (v : Verdict) (after : List ℤ) → answer_by v ≡ answer_of m.depth ending
+    walks_by : (v : Judged) (after : List ℤ) → answer_by v ≡ answer_of m.depth ending
         → after ≡ area_after n ending before → WalksModel m before v after
     walks_by v after e f = record {
       rule = unfold walked_of in rw (le-ltb (length before) (record_size n) big, e, f);
@@ -156,26 +134,30 @@ module _ (m : Model) (limits : ModelLimits m) where
     }
 
     -- it was not refused
-    pub walks_found : (v : Verdict) (after : List ℤ) → Finds n 0 m.depth ending before v after
-        → ((e : Refusal) → ¬ (v ≡ Refused e)) → WalksModel m before v after
+    pub walks_found : (v : Judged) (after : List ℤ) → Finds n 0 m.depth ending before v after → is_err v ≡ false
+        → WalksModel m before v after
     unfolding answer_of area_after
-    walks_found v after f h = walks_by v after f.is (by ending f.is f.left)
+    walks_found (Err x) after f h = absurd (false≢true (sym h))
+    walks_found (Ok v) after f h = walks_by (Ok v) after f.is (by ending f.is f.left)
       where
-        by : (o : Ending) → answer_by v ≡ answer_of m.depth o → LeftBy n 0 o before after → after ≡ area_after n o before
+        by : (o : Ending) → answer_by (Ok v) ≡ answer_of m.depth o → LeftBy n 0 o before after
+            → after ≡ area_after n o before
         by (ends_reached w) e l = l.is
         by (ends_never w) e l = l.is
         by (ends_open w) e l = l.is
-        by (ends_refused x) e l = absurd (h x (verdict_settled v (Refused x) e))
+        by (ends_refused x) e l = absurd (let z : Ok v ≡ Err x = verdict_settled (Ok v) (Err x) e in
+            let u : ◌≡◌ {A = ℕ} 0 1 = cc in omega arith)
 
     -- it was, and every word is 0
-    pub walks_stopped : (v : Verdict) (after : List ℤ) (x : Refusal) → v ≡ Refused x → Finds n 0 m.depth ending before v after
+    pub walks_stopped : (v : Judged) (after : List ℤ) → Finds n 0 m.depth ending before v after → is_err v ≡ true
         → (last : List ℤ) → last ≡ replicate (length after) (pos 0) → length after ≡ length before
-        → WalksModel m before (Refused x) last
+        → WalksModel m before v last
     unfolding answer_of area_after
-    walks_stopped v after x e f last z long = walks_by (Refused x) last (ap answer_by (sym e) ∙ f.is)
-        (z ∙ (ap (λ (k : ℕ). replicate k (pos 0)) long ∙ by ending (ap answer_by (sym e) ∙ f.is)))
+    walks_stopped (Ok v) after f h last z long = absurd (false≢true h)
+    walks_stopped (Err x) after f h last z long = walks_by (Err x) last f.is
+        (z ∙ (ap (λ (k : ℕ). replicate k (pos 0)) long ∙ by ending f.is))
       where
-        by : (o : Ending) → answer_by (Refused x) ≡ answer_of m.depth o
+        by : (o : Ending) → answer_by (Err x) ≡ answer_of m.depth o
             → replicate (length before) (pos 0) ≡ area_after n o before
         by (ends_reached w) e = absurd (let z : ◌≡◌ {A = ℕ} 0 1 = cc in omega arith)
         by (ends_never w) e = absurd (let z : ◌≡◌ {A = ℕ} 0 1 = cc in omega arith)

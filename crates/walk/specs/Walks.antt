@@ -4,7 +4,7 @@ use Rattle.numbers.specs.Refusals.{refusal_number}
 use Rattle.numbers.specs.declared.Refusal.TheVariants.{Shape}
 use Rattle.runs.specs.Rule.{Ending, walk_of, answer_of, edge_of}
 use Rattle.runs.specs.Verdicts.{Answer, reached, never, open_to, refused, answer_by, Means}
-use Rattle.runs.specs.declared.Verdict.{Verdict}
+use Rattle.runs.specs.Verdicts.{Judged}
 use Rattle.model.specs.Answers.{Said, value, refusal, read_of}
 use Rattle.model.specs.Plain.{plain}
 use Rattle.model.specs.declared.Model.{Model}
@@ -77,12 +77,12 @@ path_in n area kept = trail n area kept (kept - 1) []
 -- ---- the contracts
 -- of a model: the answer and every word of the area are the rule's, and the answer means what it says of runs, with the
 -- path that the area shows
-pub record WalksModel (m : Model) (before : List ℤ) (v : Verdict) (after : List ℤ) : Type 0 where
+pub record WalksModel (m : Model) (before : List ℤ) (v : Judged) (after : List ℤ) : Type 0 where
   pub rule : record { answer = answer_by v; area = after } ≡ walked_of (value m) before
   pub means : Means (plain m).system (path_in m.clocks after (kept_said (answer_by v))) (answer_by v)
 
 -- of bytes: the same of the model that they stand for, or the refusal of their first fault
-pub record Walks (bytes : List ℕ) (before : List ℤ) (v : Verdict) (after : List ℤ) : Type 0 where
+pub record Walks (bytes : List ℕ) (before : List ℤ) (v : Judged) (after : List ℤ) : Type 0 where
   pub rule : record { answer = answer_by v; area = after } ≡ walked_of (read_of bytes) before
   pub means : (m : Model) → read_of bytes ≡ value m
       → Means (plain m).system (path_in m.clocks after (kept_said (answer_by v))) (answer_by v)

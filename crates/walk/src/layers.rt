@@ -1,158 +1,219 @@
 // The candidates of a state, the states of a layer, layer after layer.
 ghost use Rattle.std.specs.Prelude.{◌≡◌, ◌+◌, ◌*◌, ◌≤◌, ◌<◌, get_or};
 ghost use Rattle.bounds.specs.Limits.{BoundsLimits};
-ghost use Rattle.model.specs.Outlines.{model_by, Outlines};
+ghost use Rattle.model.specs.Outlines.{model_by};
 ghost use Rattle.model.specs.Plain.{plain, bounds_of, edge_of};
-ghost use Rattle.runs.specs.Rule.{following, keep as keepBy, try_edge, expand as expandBy, layer as layerBy, layers as layersBy};
-ghost use Rattle.runs.specs.Rule.{nothing, zeroth, begun, walk_of};
+ghost use Rattle.runs.specs.Rule.{expand as expandBy, layer as layerBy, layers as layersBy, keep as keepBy};
+ghost use Rattle.runs.specs.Rule.{following, try_edge, nothing, zeroth, begun, walk_of};
 ghost use Rattle.runs.proofs.Depths.{Layer};
 ghost use Rattle.steps.specs.Steps.{Listed};
 ghost use Rattle.area.specs.Records.{state_in, states_in};
-ghost use Rattle.walk.specs.Control.{Ready, Does, Finds, tally, walk_in, aimed, stopped_by, formed_to, ended_by};
+ghost use Rattle.walk.specs.Control.{Ready, Does, Finds, tally, walk_in, aimed, formed_to, ended_by};
+ghost use Rattle.walk.specs.Grounds.{Grounded, system_of, walk_on, keeper_of};
 
-use crate::{Goal, Moved, Tally, keeping};
+use crate::keeping::{Candidate, Keeper};
+use crate::{Goal, Moved, Tally};
 use bounds::Bounds;
-use making::Made;
 use model::{Edge, Outline, places};
 use numbers::Refusal;
 use runs::Verdict;
 
-// The refusal of a step stops the walk.
-fn stopped(made: Made) -> Moved
-    ensures { result ≡ stopped_by made }
-{
-    match made {
-        Made::Vectors(_) => Moved::Stopped(Refusal::Room),
-        Made::Refused(e) => Moved::Stopped(e),
-    }
+// What a walk goes over: a model's bytes, their outline, and the room for states.
+#[derive(Clone, Copy)]
+pub struct Ground<'a> {
+    pub bytes: &'a [u8],
+    pub outline: &'a Outline,
+    pub room: usize,
 }
 
 // Forms the candidate over edge e from state i, and judges it.
 fn form(
-    n: usize,
-    goal: Goal,
-    edge: Edge,
-    invariant: Bounds,
+    keeper: &Keeper,
+    edge: &Edge,
+    invariant: &Bounds,
     area: &mut [i32],
-    room: usize,
     y: Tally,
     i: usize,
     e: usize,
-) -> Moved
-    requires ready { Ready n room y area.old × (i < y.kept) × (e < 64) × (edge.destination < 32) }
-    requires bounds_limits { BoundsLimits n edge.guard × BoundsLimits n invariant × BoundsLimits n goal.list }
-    ensures { Does n room y.kept y.tried
-        (formed_to (aimed n goal) room edge.destination i e (walk_in n y area.old)
-        (following n (edge_of n edge) (bounds_of n invariant) (state_in n area.old i).list))
+) -> Result<Moved, Refusal>
+    requires ready { Ready keeper.now.n keeper.now.room y area.old × (i < y.kept) × (e < 64)
+        × (edge.now.destination < 32) }
+    requires bounds_limits { BoundsLimits keeper.now.n edge.now.guard × BoundsLimits keeper.now.n invariant.now
+        × BoundsLimits keeper.now.n keeper.now.goal.list }
+    ensures { Does keeper.now.n keeper.now.room y.kept y.tried
+        (formed_to (aimed keeper.now.n keeper.now.goal) keeper.now.room edge.now.destination i e
+        (walk_in keeper.now.n y area.old)
+        (following keeper.now.n (edge_of keeper.now.n edge.now) (bounds_of keeper.now.n invariant.now)
+        (state_in keeper.now.n area.old i).list))
         area.old result area.new }
 {
-    let mut out = [0i32; 224];
+    let n = keeper.n;
+    let mut out = [0; 224];
     let place = area::locate(area, n, i);
-    let from = place.from;
-    let to = place.to;
-    let made = steps::candidate(n, edge, invariant, &area[from..to], &mut out);
-    let Made::Vectors(k) = made else {
-        return stopped(made);
-    };
+    let k = steps::candidate(n, edge, invariant, &area[place.from..place.to], &mut out)?;
     let words = k * (n + 1);
-    let q = edge.destination;
-    keeping::judge(n, goal, area, room, y, q, i as i32, e as i32, &out[..words])
-}
-
-// Forms the candidate over edge e, which leaves the location of state i.
-fn follow(
-    bytes: &[u8],
-    outline: Outline,
-    area: &mut [i32],
-    room: usize,
-    y: Tally,
-    i: usize,
-    e: usize,
-) -> Moved
-    requires outlines { Outlines bytes.now outline × Ready outline.clocks room y area.old × (i < y.kept) × (y.tried < 4096) }
-    requires e_lt_edges { (e < outline.edges) × (get_or outline.sources e 0 ≡ (state_in outline.clocks area.old i).location) }
-    ensures { Does outline.clocks room y.kept (y.tried + 1)
-        (try_edge (plain (model_by bytes.now outline)).system room i e (walk_in outline.clocks y area.old))
-        area.old result area.new }
-{
-    let at = outline.steps[e];
-    let edge = places::edge_at(bytes, at, outline.clocks, outline.locations);
-    let from = outline.invariants[edge.destination as usize];
-    let invariant = places::list_at(bytes, from, outline.clocks);
-    let location = outline.target;
-    let list = places::list_at(bytes, outline.list, outline.clocks);
-    let tally = Tally {
-        kept: y.kept,
-        tried: y.tried + 1,
+    let candidate = Candidate {
+        location: edge.destination,
+        parent: i as i32,
+        edge: e as i32,
+        list: &out[..words],
     };
-    form(
-        outline.clocks as usize,
-        Goal { location, list },
-        edge,
-        invariant,
-        area,
-        room,
-        tally,
-        i,
-        e,
-    )
+    keeper.judge(area, y, &candidate)
 }
 
-// Tries each edge at state i.
-fn expand(
-    bytes: &[u8],
-    outline: Outline,
-    area: &mut [i32],
-    room: usize,
-    y: Tally,
-    i: usize,
-) -> Moved
-    requires { Outlines bytes.now outline × Ready outline.clocks room y area.old × (i < y.kept) × (y.tried ≤ i * 64) }
-    ensures { Does outline.clocks room y.kept ((i + 1) * 64)
-        (expandBy (plain (model_by bytes.now outline)).system room i (walk_in outline.clocks y area.old))
-        area.old result area.new }
-{
-    let n = outline.clocks as usize;
-    let edges = outline.edges as usize;
-    let mut s = y;
-    let mut e = 0;
-    while e < edges {
-        let place = area::locate(area, n, i);
-        let here = place.location;
-        let source = outline.sources[e];
-        let r = if source == here {
-            follow(bytes, outline, area, room, s, i, e)
-        } else {
-            Moved::Going(s)
+impl Ground<'_> {
+    // By what its states are kept.
+    fn keeper(&self) -> Keeper
+        requires { self.now.outline.now.clocks ≤ 6 }
+        ensures { result ≡ keeper_of self.now }
+    {
+        let outline = self.outline;
+        let goal = Goal {
+            location: outline.target,
+            list: places::list_at(self.bytes, outline.list, outline.clocks),
         };
-        let Moved::Going(next) = r else {
-            return r;
-        };
-        s = next;
-        e += 1;
+        Keeper {
+            n: outline.clocks as usize,
+            goal,
+            room: self.room,
+        }
     }
-    Moved::Going(s)
-}
 
-// Expands each state of the layer that begins with state b.
-fn layer(bytes: &[u8], outline: Outline, area: &mut [i32], room: usize, y: Tally, b: usize) -> Moved
-    requires { Outlines bytes.now outline × Ready outline.clocks room y area.old × (b ≤ y.kept) × (y.tried ≤ b * 64) }
-    ensures { Does outline.clocks room y.kept (y.kept * 64)
-        (layerBy (plain (model_by bytes.now outline)).system room b (walk_in outline.clocks y area.old))
-        area.old result area.new }
-{
-    let end = y.kept;
-    let mut s = y;
-    let mut i = b;
-    while i < end {
-        let r = expand(bytes, outline, area, room, s, i);
-        let Moved::Going(next) = r else {
-            return r;
+    // Forms the candidate over edge e, which leaves the location of state i.
+    fn follow(&self, area: &mut [i32], y: Tally, i: usize, e: usize) -> Result<Moved, Refusal>
+        requires grounded { Grounded self.now y area.old × (i < y.kept) × (y.tried < 4096) }
+        requires e_lt_edges { (e < self.now.outline.now.edges)
+            × (get_or self.now.outline.now.sources e 0 ≡ (state_in self.now.outline.now.clocks area.old i).location) }
+        ensures { Does self.now.outline.now.clocks self.now.room y.kept (y.tried + 1)
+            (try_edge (system_of self.now) self.now.room i e (walk_on self.now y area.old))
+            area.old result area.new }
+    {
+        let outline = self.outline;
+        let edge = places::edge_at(
+            self.bytes,
+            outline.steps[e],
+            outline.clocks,
+            outline.locations,
+        );
+        let from = outline.invariants[edge.destination as usize];
+        let invariant = places::list_at(self.bytes, from, outline.clocks);
+        let tally = Tally {
+            kept: y.kept,
+            tried: y.tried + 1,
         };
-        s = next;
-        i += 1;
+        form(&self.keeper(), &edge, &invariant, area, tally, i, e)
     }
-    Moved::Going(s)
+
+    // Tries each edge at state i.
+    fn expand(&self, area: &mut [i32], y: Tally, i: usize) -> Result<Moved, Refusal>
+        requires { Grounded self.now y area.old × (i < y.kept) × (y.tried ≤ i * 64) }
+        ensures { Does self.now.outline.now.clocks self.now.room y.kept ((i + 1) * 64)
+            (expandBy (system_of self.now) self.now.room i (walk_on self.now y area.old))
+            area.old result area.new }
+    {
+        let n = self.outline.clocks as usize;
+        let mut s = y;
+        for e in 0..self.outline.edges as usize {
+            let place = area::locate(area, n, i);
+            if self.outline.sources[e] == place.location {
+                let moved = self.follow(area, s, i, e)?;
+                let Moved::Going(next) = moved else {
+                    return Ok(moved);
+                };
+                s = next;
+            }
+        }
+        Ok(Moved::Going(s))
+    }
+
+    // Expands each state of the layer that begins with state b.
+    fn layer(&self, area: &mut [i32], y: Tally, b: usize) -> Result<Moved, Refusal>
+        requires { Grounded self.now y area.old × (b ≤ y.kept) × (y.tried ≤ b * 64) }
+        ensures { Does self.now.outline.now.clocks self.now.room y.kept (y.kept * 64)
+            (layerBy (system_of self.now) self.now.room b (walk_on self.now y area.old))
+            area.old result area.new }
+    {
+        let mut s = y;
+        for i in b..y.kept {
+            let moved = self.expand(area, s, i)?;
+            let Moved::Going(next) = moved else {
+                return Ok(moved);
+            };
+            s = next;
+        }
+        Ok(Moved::Going(s))
+    }
+
+    // Makes layer after layer, to the depth.
+    fn layers(&self, area: &mut [i32], y: Tally) -> Result<Verdict, Refusal>
+        requires { Grounded self.now y area.old × (y.tried ≡ 0)
+            × Layer 0 0 (states_in self.now.outline.now.clocks y.kept area.old) }
+        ensures { Finds self.now.outline.now.clocks y.kept self.now.outline.now.depth
+            (layersBy (system_of self.now) self.now.room self.now.outline.now.depth 0 (walk_on self.now y area.old))
+            area.old result area.new }
+    {
+        let depth = self.outline.depth as usize;
+        let mut s = y;
+        let mut b = 0;
+        for d in 0..depth {
+            let moved = self.layer(area, s, b)?;
+            let Moved::Going(next) = moved else {
+                return Ok(ended(moved, d + 1));
+            };
+            if next.kept == s.kept {
+                return Ok(ended(moved, d + 1));
+            }
+            b = s.kept;
+            s = next;
+        }
+        Ok(Verdict::Open {
+            depth,
+            kept: s.kept,
+            tried: s.tried,
+        })
+    }
+
+    // Keeps state 0, and makes the layers behind it.
+    fn root(&self, area: &mut [i32], list: &[i32]) -> Result<Verdict, Refusal>
+        requires { Grounded self.now (tally 0 0) area.old × Listed self.now.outline.now.clocks list.now }
+        ensures { Finds self.now.outline.now.clocks 0 self.now.outline.now.depth
+            (begun (layersBy (system_of self.now) self.now.room self.now.outline.now.depth 0)
+            (keepBy (system_of self.now) self.now.room (zeroth (system_of self.now) list.now) nothing))
+            area.old result area.new }
+    {
+        let y = Tally { kept: 0, tried: 0 };
+        let zeroth = Candidate {
+            location: self.outline.initial,
+            parent: -1,
+            edge: -1,
+            list,
+        };
+        let moved = self.keeper().store(area, y, &zeroth)?;
+        let Moved::Going(s) = moved else {
+            return Ok(ended(moved, 0));
+        };
+        self.layers(area, s)
+    }
+
+    // The whole walk, but for what a refusal leaves in the area.
+    pub fn begin(&self, area: &mut [i32]) -> Result<Verdict, Refusal>
+        requires { Grounded self.now (tally 0 0) area.old }
+        ensures { Finds self.now.outline.now.clocks 0 self.now.outline.now.depth
+            (walk_of (plain (model_by self.now.bytes.now self.now.outline.now)) self.now.room)
+            area.old result area.new }
+    {
+        let n = self.outline.clocks as usize;
+        let from = self.outline.invariants[self.outline.initial as usize];
+        let invariant = places::list_at(self.bytes, from, self.outline.clocks);
+        let zeros = [0; 7];
+        let mut out = [0; 224];
+        let k = steps::enter(n, &invariant, &zeros[..n + 1], &mut out)?;
+        if k == 0 {
+            return Ok(Verdict::Never { kept: 0, tried: 0 });
+        }
+        let words = k * (n + 1);
+        self.root(area, &out[..words])
+    }
 }
 
 // The verdict of a part that does not go on, after so many edges.
@@ -169,85 +230,5 @@ fn ended(r: Moved, edges: usize) -> Verdict
             kept: y.kept,
             tried: y.tried,
         },
-        Moved::Stopped(e) => Verdict::Refused(e),
     }
-}
-
-// Makes layer after layer, to the depth.
-fn layers(bytes: &[u8], outline: Outline, area: &mut [i32], room: usize, y: Tally) -> Verdict
-    requires { Outlines bytes.now outline × Ready outline.clocks room y area.old × (y.tried ≡ 0)
-        × Layer 0 0 (states_in outline.clocks y.kept area.old) }
-    ensures { Finds outline.clocks y.kept outline.depth
-        (layersBy (plain (model_by bytes.now outline)).system room outline.depth 0 (walk_in outline.clocks y area.old))
-        area.old result area.new }
-{
-    let depth = outline.depth as usize;
-    let mut s = y;
-    let mut b = 0;
-    let mut d = 0;
-    while d < depth {
-        let end = s.kept;
-        let r = layer(bytes, outline, area, room, s, b);
-        let Moved::Going(next) = r else {
-            return ended(r, d + 1);
-        };
-        if next.kept == end {
-            return ended(r, d + 1);
-        }
-        s = next;
-        b = end;
-        d += 1;
-    }
-    Verdict::Open {
-        depth,
-        kept: s.kept,
-        tried: s.tried,
-    }
-}
-
-// Keeps state 0, and makes the layers behind it.
-fn root(bytes: &[u8], outline: Outline, area: &mut [i32], room: usize, list: &[i32]) -> Verdict
-    requires { Outlines bytes.now outline × Ready outline.clocks room (tally 0 0) area.old × Listed outline.clocks list.now }
-    ensures { Finds outline.clocks 0 outline.depth
-        (begun (layersBy (plain (model_by bytes.now outline)).system room outline.depth 0)
-        (keepBy (plain (model_by bytes.now outline)).system room (zeroth (plain (model_by bytes.now outline)).system list.now) nothing))
-        area.old result area.new }
-{
-    let n = outline.clocks as usize;
-    let location = outline.target;
-    let bounds = places::list_at(bytes, outline.list, outline.clocks);
-    let goal = Goal {
-        location,
-        list: bounds,
-    };
-    let q = outline.initial;
-    let y = Tally { kept: 0, tried: 0 };
-    let r = keeping::store(n, goal, area, room, y, q, -1, -1, list);
-    let Moved::Going(s) = r else {
-        return ended(r, 0);
-    };
-    layers(bytes, outline, area, room, s)
-}
-
-// The whole walk, but for what a refusal leaves in the area.
-pub fn begin(bytes: &[u8], outline: Outline, area: &mut [i32], room: usize) -> Verdict
-    requires { Outlines bytes.now outline × Ready outline.clocks room (tally 0 0) area.old }
-    ensures { Finds outline.clocks 0 outline.depth (walk_of (plain (model_by bytes.now outline)) room)
-        area.old result area.new }
-{
-    let n = outline.clocks as usize;
-    let q = outline.initial as usize;
-    let from = outline.invariants[q];
-    let invariant = places::list_at(bytes, from, outline.clocks);
-    let zeros = [0i32; 7];
-    let mut out = [0i32; 224];
-    let made = steps::enter(n, invariant, &zeros[..n + 1], &mut out);
-    let Made::Vectors(k) = made else {
-        return ended(stopped(made), 0);
-    };
-    if k == 0 {
-        return Verdict::Never { kept: 0, tried: 0 };
-    }
-    let words = k * (n + 1);
-    root(bytes, outline, area, room, &out[..words])
 }

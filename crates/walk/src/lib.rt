@@ -5,7 +5,7 @@ ghost use Rattle.model.specs.Outlines.{model_by, Outlines};
 ghost use Rattle.walk.specs.Walks.{WalksModel, Walks};
 
 use bounds::Bounds;
-use codec::Step;
+use layers::Ground;
 use model::Outline;
 use numbers::Refusal;
 use runs::Verdict;
@@ -14,55 +14,51 @@ mod keeping;
 mod layers;
 
 // How many states are kept, and how many candidates were formed.
-#[derive(Clone, Copy)]
+#[derive(Clone, Copy, Debug, PartialEq, Eq)]
 pub struct Tally {
     pub kept: usize,
     pub tried: usize,
 }
 
 // The target: its location and its list.
-#[derive(Clone, Copy)]
+#[derive(Clone, Copy, Debug, PartialEq, Eq)]
 pub struct Goal {
     pub location: u32,
     pub list: Bounds,
 }
 
-// A part of the walk goes on, has met the target with the state kept last, or is refused.
-#[derive(Clone, Copy)]
+// A part of the walk goes on, or has met the target with the state kept last.
+#[derive(Clone, Copy, Debug, PartialEq, Eq)]
 pub enum Moved {
     Going(Tally),
     Met(Tally),
-    Stopped(Refusal),
 }
 
 // Walks a model by its outline: SHAPE for an area under one record, then the walk; its refusal leaves every word 0.
-pub fn walk_outline(bytes: &[u8], outline: Outline, area: &mut [i32]) -> Verdict
+pub fn walk_outline(bytes: &[u8], outline: Outline, area: &mut [i32]) -> Result<Verdict, Refusal>
     requires { Outlines bytes.now outline }
     ensures { WalksModel (model_by bytes.now outline) area.old result area.new }
 {
     let n = outline.clocks as usize;
-    let size = area::size(n);
-    if area.len() < size {
-        return Verdict::Refused(Refusal::Shape);
+    if area.len() < area::size(n) {
+        return Err(Refusal::Shape);
     }
-    let room = area::room(area, n);
-    let v = layers::begin(bytes, outline, area, room);
-    let Verdict::Refused(e) = v else {
-        return v;
+    let ground = Ground {
+        bytes,
+        outline: &outline,
+        room: area::room(area, n),
     };
-    area::zero(area);
-    Verdict::Refused(e)
+    let walked = ground.begin(area);
+    if walked.is_err() {
+        area::zero(area);
+    }
+    walked
 }
 
 // Walks the model that the bytes stand for.
-pub fn walk(bytes: &[u8], area: &mut [i32]) -> Verdict
+pub fn walk(bytes: &[u8], area: &mut [i32]) -> Result<Verdict, Refusal>
     ensures { Walks bytes.now area.old result area.new }
 {
-    let r = model::places::read_outline(bytes);
-    let step = r.step;
-    let outline = r.outline;
-    let Step::At(_) = step else {
-        return Verdict::Refused(step.why());
-    };
+    let outline = model::places::read_outline(bytes)?;
     walk_outline(bytes, outline, area)
 }

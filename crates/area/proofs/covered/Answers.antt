@@ -1,26 +1,16 @@
+use mathlib.Core.Bool.{true, false}
 use native.Mathlib.Omega.{arith}
-use mathlib.Core.Path.{◌≡◌, sym, subst}
-use Rattle.area.proofs.CoverLaws.{None, none_start, none_next, some_next}
+use mathlib.Core.Path.{◌≡◌}
+use Prim.Native.Nat.{ℕ}
+use borrow.Author.Rules.{rules}
+use Rattle.std.proofs.lemmas.Iterator.{cases_from_any, YieldsList-from_range}
+use Rattle.area.specs.Records.{state_in, covers_by}
+use Rattle.area.proofs.CoverLaws.{covered_as}
 use Rattle.area.proofs.covered.Goals as goal
-
-pub loop-i-init : goal.loop-i-init
-loop-i-init c = (omega arith, none_start _ _ _ _)
-
-pub covers-requires : goal.covers-requires
-covers-requires c = (c.requires.0, c.requires.1 _ c.loop-i-test.true)
-
-pub returns-then-covers : goal.returns-then-covers
-returns-then-covers c =
-    some_next _ _ _ _ c.loop-i.i _ _ c.loop-i-test.true c.loop-i.invariant.1
-    c.covers.ensures c.if-covers.true
-
-pub loop-i-preserved : goal.loop-i-preserved
-loop-i-preserved c = (
-  omega arith,
-  none_next _ _ _ _ c.loop-i.i _ c.loop-i.invariant.1 c.covers.ensures c.if-covers.false,
-)
 
 pub returns : goal.returns
 returns c =
-    let e : c.loop-i.i ≡ c.args.k = omega (arith, c.loop-i-test.false, c.loop-i.invariant.0) in
-    sym (subst (None _ _ _ _) e c.loop-i.invariant.1)
+    let covers = λ (i : ℕ). covers_by c.args.n c.args.q c.args.list.now (state_in c.args.n c.args.area.now i) in
+    covered_as _ _ _ _ c.args.k _
+    (cases_from_any _ _ _ (λ i. covers i ≡ true) (λ i. covers i ≡ false) c.any.ensures.ran
+    (YieldsList-from_range 0 c.args.k c.args.k (cc) (omega arith)) (λ i q h. search rules) (λ i q h. search rules))

@@ -9,57 +9,57 @@ use Rattle.algebra.specs.Vectors.{count}
 use Rattle.area.specs.Records.{state_in}
 use Rattle.area.proofs.RecordLaws.{read_room, location_read, location_small, count_read, few_read, places}
 use Rattle.area.proofs.locate.Goals as goal
-use Rattle.area.proofs.locate.Goals.{After-size-size, After-location-1, After-count-1}
+use Rattle.area.proofs.locate.Goals.{After-size, After-location-1, After-vectors-1}
 
 -- the words that are read lie in the area
-room : (c : After-size-size) → c.args.i * c.size-size.result + (4 + 32 * suc c.args.n) ≤ length c.args.area.now
-room c = read_room c.args.n c.args.i _ c.args.area.now c.size-size.ensures c.requires.1
+room : (c : After-size) → c.args.i * c.size.result + (4 + 32 * suc c.args.n) ≤ length c.args.area.now
+room c = read_room c.args.n c.args.i _ c.args.area.now c.size.ensures c.requires.1
 
 -- the two words that are read
 located : (c : After-location-1) → let a = c.args in
-    to_z w32 (of_z w32 (get_or a.area.now (a.i * c.size-size.result) (pos 0)))
+    to_z w32 (of_z w32 (get_or a.area.now (a.i * c.size.result) (pos 0)))
     ≡ pos (state_in a.n a.area.now a.i).location
-located c = location_read c.args.n c.args.i _ c.args.area.now c.size-size.ensures c.requires.1 c.location-1.given
+located c = location_read c.args.n c.args.i _ c.args.area.now c.size.ensures c.requires.1 c.location-1.given
 
-counted : (c : After-count-1) → let a = c.args in
-    to_z w32 (of_z w32 (get_or a.area.now (a.i * c.size-size.result + 3) (pos 0)))
+counted : (c : After-vectors-1) → let a = c.args in
+    to_z w32 (of_z w32 (get_or a.area.now (a.i * c.size.result + 3) (pos 0)))
     ≡ pos (count a.n (state_in a.n a.area.now a.i).list)
-counted c = count_read c.args.n c.args.i _ c.args.area.now c.size-size.ensures c.requires.1 c.count-1.given
+counted c = count_read c.args.n c.args.i _ c.args.area.now c.size.ensures c.requires.1 c.vectors-1.given
 
 -- so many vectors fit the record
-few : (c : After-size-size) → let a = c.args in
+few : (c : After-size) → let a = c.args in
     count a.n (state_in a.n a.area.now a.i).list * (a.n + 1) ≤ 32 * suc a.n
-few c = few_read c.args.n c.args.i _ c.args.area.now c.size-size.ensures c.requires.1
+few c = few_read c.args.n c.args.i _ c.args.area.now c.size.ensures c.requires.1
 
 pub bounds-area-at : goal.bounds-area-at
-bounds-area-at c = omega (arith, room (goal.at.bounds-area-at c).After-size-size)
+bounds-area-at c = omega (arith, room (goal.at.bounds-area-at c).After-size)
 
 pub bounds-area-at-2 : goal.bounds-area-at-2
-bounds-area-at-2 c = omega (arith, room (goal.at.bounds-area-at-2 c).After-size-size)
+bounds-area-at-2 c = omega (arith, room (goal.at.bounds-area-at-2 c).After-size)
 
 pub overflow_cast-vectors : goal.overflow_cast-vectors
 overflow_cast-vectors c =
-    rw (counted (goal.at.overflow_cast-vectors c).After-count-1)
+    rw (counted (goal.at.overflow_cast-vectors c).After-vectors-1)
     (tt, omega (arith, c.requires.1.proper.whole.few))
 
-pub overflow_cast-result : goal.overflow_cast-result
-overflow_cast-result c =
+pub overflow_cast-location : goal.overflow_cast-location
+overflow_cast-location c =
     let a = c.args in
-    let small = location_small a.n a.i _ a.area.now c.size-size.ensures c.requires.1 c.location-1.given in
-    rw (located (goal.at.overflow_cast-result c).After-location-1) (tt, omega (arith, small))
+    let small = location_small a.n a.i _ a.area.now c.size.ensures c.requires.1 c.location-1.given in
+    rw (located (goal.at.overflow_cast-location c).After-location-1) (tt, omega (arith, small))
 
 pub overflow_mul-result : goal.overflow_mul-result
 overflow_mul-result c =
-    rw (counted (goal.at.overflow_mul-result c).After-count-1)
-    (omega (arith, few (goal.at.overflow_mul-result c).After-size-size, c.requires.0))
+    rw (counted (goal.at.overflow_mul-result c).After-vectors-1)
+    (omega (arith, few (goal.at.overflow_mul-result c).After-size, c.requires.0))
 
 pub overflow_add-result-2 : goal.overflow_add-result-2
 overflow_add-result-2 c =
-    let s = (goal.at.overflow_add-result-2 c).After-size-size in
-    rw (counted (goal.at.overflow_add-result-2 c).After-count-1) (omega (arith, few s, c.well_formed, room s))
+    let s = (goal.at.overflow_add-result-2 c).After-size in
+    rw (counted (goal.at.overflow_add-result-2 c).After-vectors-1) (omega (arith, few s, c.well_formed, room s))
 
 pub returns : goal.returns
 returns c =
-    places c.args.n c.args.i _ c.args.area.now c.size-size.ensures c.requires.1 _ _
+    places c.args.n c.args.i _ c.args.area.now c.size.ensures c.requires.1 _ _
     (ap nat_abs (located (goal.at.returns c).After-location-1))
-    (ap nat_abs (counted (goal.at.returns c).After-count-1))
+    (ap nat_abs (counted (goal.at.returns c).After-vectors-1))

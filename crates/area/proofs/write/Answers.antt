@@ -1,22 +1,11 @@
-use borrow.Author.Rules.{rules}
-use lib.ListN.{length, length-set}
-use Rattle.area.proofs.KeepLaws.{write_seen}
+use lib.ListN.{length}
+use mir.Facts.{to_z-of_z}
+use Rattle.area.proofs.KeepLaws.{write_law}
 use Rattle.area.proofs.write.Goals as goal
-
-pub bounds-words-1 : goal.bounds-words-1
-bounds-words-1 c = simp length-set (search rules)
-
-pub bounds-words-2 : goal.bounds-words-2
-bounds-words-2 c = simp length-set (search rules)
-
-pub bounds-words-3 : goal.bounds-words-3
-bounds-words-3 c = simp length-set (search rules)
-
-pub shape_of-words : goal.shape_of-words
-shape_of-words c = simp length-set (search rules)
 
 pub returns : goal.returns
 returns c =
-    write_seen (length c.args.words.now) c.zero.new.words c.copy.new.dst
-    c.args.list.now c.ranges.location c.ranges.parent c.ranges.edge c.ranges.count c.requires
-    c.zero.ensures c.copy.ensures
+    let r = c.ranges in
+    rw (c.copy_from_slice-2.ensures.after, c.copy_from_slice.ensures.after, c.zero.ensures)
+    (rw (to_z-of_z r.location, to_z-of_z r.parent, to_z-of_z r.edge, to_z-of_z r.count)
+    (write_law (length c.args.words.now) c.args.list.now _ _ _ _ c.requires))

@@ -1,39 +1,21 @@
-use Rattle.std.proofs.Common.{◌≡◌, ℕ, ◌+◌, ◌-◌, ◌≤◌, List, ◌++◌, rules, arith, length, take, slice_range}
-use Rattle.std.proofs.Common.{sym, ap, ◌∙◌, subst, le_refl, drop_at, length-take-le}
-use Rattle.std.proofs.lemmas.Slice.{take-put_mid_below}
+use Rattle.std.proofs.Common.{◌≡◌, ℕ, ◌+◌, ◌≤◌, List, ◌++◌, rules, length, take, sym, ap, ◌∙◌, subst, length-take-le}
+use Rattle.std.proofs.Math.Seq.{take-append-add}
+use Rattle.std.proofs.lemmas.List.{take-append-le}
 use Rattle.std.specs.Io.KnownBytes.{Consumes}
 use Rattle.std.proofs.KnownBytes.{Consumes-trans}
 use borrow.Rule.Slice.PartMut.{put_mid, post_of}
-use lib.Seq.{take-add, take-append-le}
 use Rattle.console.proofs.read.Goals as goal
 
--- the first bytes, and behind them a part
-take_split : (a b : ℕ) (old new : List ℕ) → a ≤ b → take a new ≡ take a old
-    → take a old ++ slice_range new a b ≡ take b new
-take_split a b old new h front =
-    let same : a + (b - a) ≡ b = omega arith in
-    ap (λ l. l ++ slice_range new a b) (sym front) ∙ sym (take-add a (b - a) new) ∙ ap (λ n. take n new) same
-
--- the part that was put is read back
-slice_range-put_mid : (a k n : ℕ) (xs ys : List ℕ) → a ≤ length xs → n ≤ length ys
-    → slice_range (put_mid a k xs ys) a (a + n) ≡ take n ys
-slice_range-put_mid a k n xs ys within fits =
-    let same : (a + n) - a ≡ n = omega arith in
-    let after = post_of a k xs in
-    ap (take ((a + n) - a)) (drop_at (take a xs) (ys ++ after) a (length-take-le a xs within))
-    ∙ ap (λ m. take m (ys ++ after)) same ∙ take-append-le n ys after fits
+-- the first bytes, and behind them the first of a part that was put there
+take-put_mid-add : (a k n : ℕ) (xs ys : List ℕ) → a ≤ length xs → n ≤ length ys
+    → take a xs ++ take n ys ≡ take (a + n) (put_mid a k xs ys)
+take-put_mid-add a k n xs ys within fits =
+    let post = post_of a k xs in
+    let front = ap (λ m. take (m + n) (put_mid a k xs ys)) (sym (length-take-le a xs within)) in
+    sym (front ∙ take-append-add (take a xs) (ys ++ post) n ∙ ap (λ l. take a xs ++ l) (take-append-le n ys post fits))
 
 pub loop-at-preserved : goal.loop-at-preserved
 loop-at-preserved g c =
-    let from = c.loop-at.at in
-    let more = c.in_ok-more.more in
-    let buffer = c.loop-at.buffer in
-    let room = length buffer - from in
-    let within = c.loop-at.invariant.1 in
     let read = c.in_ok-more.ensures in
-    let part = slice_range-put_mid from room more buffer c.read_some.new.part within read.bound.0 in
-    let before = take-put_mid_below _ _ _ _ _ (le_refl _) within in
-    let joined = take_split from (from + more) buffer (put_mid from room buffer c.read_some.new.part)
-    (omega arith) before in
-    let consumed = Consumes-trans _ _ _ _ _ c.loop-at.invariant.2 read.bytes.0 in
-    (search rules, search rules, subst (Consumes _ _) (ap (λ l. take from buffer ++ l) (sym part) ∙ joined) consumed)
+    let joined = take-put_mid-add _ _ _ _ _ c.loop-at.invariant.1 read.bound.0 in
+    (search rules, search rules, subst (Consumes _ _) joined (Consumes-trans _ _ _ _ _ c.loop-at.invariant.2 read.bytes.0))

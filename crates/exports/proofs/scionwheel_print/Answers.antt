@@ -8,12 +8,12 @@ use Rattle.exports.proofs.scionwheel_print.Goals as goal
 pub count-requires : goal.count-requires
 count-requires c =
     printed_fits _ (all_of (λ b. b < 256) 0 c.args.bytes.now (λ i h. omega (arith, c.shared_slice_known-1.given i)))
-    _ _ _ _ _ c.answer-length.ensures
+    _ _ _ _ _ c.answer.ensures
 
 pub returns : goal.returns
 returns c =
     record {
-      answer = c.answer-length.result;
-      gives = c.answer-length.ensures;
+      answer = c.answer.result;
+      gives = c.answer.ensures;
       is = handed c.count.result _ c.count.type_inv c.count.ensures;
     }

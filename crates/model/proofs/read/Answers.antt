@@ -1,104 +1,66 @@
-use native.Mathlib.Omega.{arith}
+use mathlib.Core.Path.{sym, ◌∙◌}
 use Prim.Native.Nat.{◌<◌}
-use mathlib.Core.Path.{ap, ◌∙◌}
-use Rattle.codec.specs.Answers.{why_step}
-use Rattle.codec.proofs.FormLaws.{after, stops, stepped, unstepped, finished}
+use native.Mathlib.Omega.{arith}
+use Rattle.std.proofs.lemmas.Result.{err_from_is_err_and}
+use Rattle.codec.specs.Form.{read_in}
+use Rattle.codec.proofs.FormLaws.{first_gave, first_refused}
 use Rattle.codec.proofs.PackedLaws.{all_of}
 use Rattle.model.specs.Models.{model_form}
 use Rattle.model.proofs.ModelSize.{found_head}
-use Rattle.model.proofs.ReadLaws.{first_fault, bytes_over, whole_model, read_refuses, read_gives}
+use Rattle.model.proofs.ReadLaws.{read_refuses, read_over, read_gives}
 use Rattle.model.proofs.read.Goals as goal
 
-pub returns-in_default : goal.returns-in_default
+pub returns-in_err-head : goal.returns-in_err-head
 unfolding model_form
-returns-in_default c =
-    let told = c.in_default.is in
-    let why = c.why.ensures ∙ ap why_step told in
-    let head = unstepped c.read_head-h.ensures told in
-    read_refuses (first_fault (stops _ _ head) why) c.refused_model.ensures
+returns-in_err-head c =
+    let p = err_from_is_err_and c.from_residual.result c.from_residual.ensures.1 in
+    rw (p.1, p.2) (read_refuses (first_refused _ _ _ c.in_err-head.ensures))
 
-pub read_invariants-i-requires : goal.read_invariants-i-requires
-read_invariants-i-requires c =
-    let head = stepped c.read_head-h.ensures c.in-At.is in
-    let counts = found_head head in
-    (counts.0, counts.1)
+pub read_invariants-requires : goal.read_invariants-requires
+read_invariants-requires c = let counts = found_head (record { is = sym c.in_ok-head.ensures }) in (counts.0, counts.1)
 
-pub returns-in_default-invariants_step : goal.returns-in_default-invariants_step
+pub returns-in_err-invariants : goal.returns-in_err-invariants
 unfolding model_form
-returns-in_default-invariants_step c =
-    let told = c.in_default-invariants_step.is in
-    let why = c.why-in_default-invariants_step.ensures ∙ ap why_step told in
-    let head = stepped c.read_head-h.ensures
-    c.in-At.is in
-    let lists = unstepped c.read_invariants-i.ensures told in
-    read_refuses (first_fault (after _ _ head (stops _ _ lists)) why) c.refused_model-in_default-invariants_step.ensures
+returns-in_err-invariants c =
+    let p = err_from_is_err_and c.from_residual-in_err-invariants.result c.from_residual-in_err-invariants.ensures.1 in
+    rw (p.1, p.2)
+    (read_refuses (first_gave _ _ _ c.in_ok-head.ensures ∙ first_refused _ _ _ c.in_err-invariants.ensures))
 
-pub read_edges-e-requires : goal.read_edges-e-requires
-read_edges-e-requires c =
-    let head = stepped c.read_head-h.ensures
-    c.in-At.is in
-    let counts = found_head head in
-    (counts.0, counts.2)
+pub read_edges-requires : goal.read_edges-requires
+read_edges-requires c = let counts = found_head (record { is = sym c.in_ok-head.ensures }) in (counts.0, counts.2)
 
-pub returns-in_default-edges_step : goal.returns-in_default-edges_step
+pub returns-in_err-steps : goal.returns-in_err-steps
 unfolding model_form
-returns-in_default-edges_step c =
-    let told = c.in_default-edges_step.is in
-    let why = c.why-in_default-edges_step.ensures ∙ ap why_step told in
-    let head = stepped c.read_head-h.ensures
-    c.in-At.is in
-    let lists = stepped c.read_invariants-i.ensures
-    c.in-At-invariants_step.is in
-    let edges = unstepped c.read_edges-e.ensures told in
-    read_refuses (first_fault (after _ _ head (after _ _ lists (stops _ _ edges))) why) c.refused_model-in_default-edges_step.ensures
+returns-in_err-steps c =
+    let p = err_from_is_err_and c.from_residual-in_err-steps.result c.from_residual-in_err-steps.ensures.1 in
+    rw (p.1, p.2)
+    (read_refuses
+    (first_gave _ _ _ c.in_ok-head.ensures ∙ first_gave _ _ _ c.in_ok-invariants.ensures
+    ∙ first_refused _ _ _ c.in_err-steps.ensures))
 
-pub read_goal-g-requires : goal.read_goal-g-requires
-read_goal-g-requires c =
-    let head = stepped c.read_head-h.ensures
-    c.in-At.is in
-    (found_head head).0
+pub read_goal-requires : goal.read_goal-requires
+read_goal-requires c = (found_head (record { is = sym c.in_ok-head.ensures })).0
 
-pub returns-in_default-goal_step : goal.returns-in_default-goal_step
+pub returns-in_err-goal : goal.returns-in_err-goal
 unfolding model_form
-returns-in_default-goal_step c =
-    let told = c.in_default-goal_step.is in
-    let why = c.why-in_default-goal_step.ensures ∙ ap why_step told in
-    let head = stepped c.read_head-h.ensures
-    c.in-At.is in
-    let lists = stepped c.read_invariants-i.ensures
-    c.in-At-invariants_step.is in
-    let edges = stepped c.read_edges-e.ensures
-    c.in-At-edges_step.is in
-    let goal = unstepped c.read_goal-g.ensures.reads told in
-    read_refuses (first_fault (after _ _ head (after _ _ lists (after _ _ edges (stops _ _ goal)))) why)
-    c.refused_model-in_default-goal_step.ensures
+returns-in_err-goal c =
+    let p = err_from_is_err_and c.from_residual-in_err-goal.result c.from_residual-in_err-goal.ensures.1 in
+    rw (p.1, p.2)
+    (read_refuses
+    (first_gave _ _ _ c.in_ok-head.ensures ∙ first_gave _ _ _ c.in_ok-invariants.ensures
+    ∙ first_gave _ _ _ c.in_ok-steps.ensures ∙ first_refused _ _ _ c.in_err-goal.ensures))
 
-pub returns-then-end-bytes : goal.returns-then-end-bytes
-unfolding model_form
-returns-then-end-bytes c =
-    let head = stepped c.read_head-h.ensures
-    c.in-At.is in
-    let lists = stepped c.read_invariants-i.ensures
-    c.in-At-invariants_step.is in
-    let edges = stepped c.read_edges-e.ensures
-    c.in-At-edges_step.is in
-    let goal = stepped c.read_goal-g.ensures.reads
-    c.in-At-goal_step.is in
-    let found = after _ _ head (after _ _ lists (after _ _ edges (after _ _ goal finished))) in
-    read_refuses (bytes_over found c.if-end-bytes.true) c.refused_model-then-end-bytes.ensures
+pub returns-then-not-is_empty : goal.returns-then-not-is_empty
+unfolding model_form read_in
+returns-then-not-is_empty c =
+    read_over
+    (first_gave _ _ _ c.in_ok-head.ensures ∙ first_gave _ _ _ c.in_ok-invariants.ensures
+    ∙ first_gave _ _ _ c.in_ok-steps.ensures ∙ first_gave _ _ _ c.in_ok-goal.ensures) c.if-not-is_empty.ensures
 
 pub returns : goal.returns
-unfolding model_form
+unfolding model_form read_in
 returns c =
-    let bytes = all_of (λ b. b < 256) 0 c.args.bytes.now
-    (λ i h. omega (arith, c.shared_slice_known-1.given i)) in
-    let head = stepped c.read_head-h.ensures
-    c.in-At.is in
-    let lists = stepped c.read_invariants-i.ensures
-    c.in-At-invariants_step.is in
-    let edges = stepped c.read_edges-e.ensures
-    c.in-At-edges_step.is in
-    let goal = stepped c.read_goal-g.ensures.reads
-    c.in-At-goal_step.is in
-    let found = after _ _ head (after _ _ lists (after _ _ edges (after _ _ goal finished))) in
-    read_gives bytes (whole_model found c.if-end-bytes.false)
+    let bytes = all_of (λ b. b < 256) 0 c.args.bytes.now (λ i h. omega (arith, c.type_inv.bytes i)) in
+    read_gives bytes
+    (first_gave _ _ _ c.in_ok-head.ensures ∙ first_gave _ _ _ c.in_ok-invariants.ensures
+    ∙ first_gave _ _ _ c.in_ok-steps.ensures ∙ first_gave _ _ _ c.in_ok-goal.ensures) c.if-not-is_empty.ensures

@@ -1,15 +1,20 @@
-use mathlib.Core.Path.{sym, ◌∙◌}
+use mathlib.Core.Path.{◌≡◌}
+use Prim.Native.Nat.{◌<◌}
+use lib.IntN.{ℤ}
+use lib.Signed.{mag}
 use mir.Facts.{to_z-of_z}
-use Rattle.numbers.proofs.NumberLaws.{≼_⊕, ⊕_comm}
-use Rattle.numbers.proofs.WordLaws.{lt_yes, lt_no, number_mono}
+use mir.Syntax.{w32}
+use mir.Val.{SFits, to_z, of_z}
+use Rattle.std.specs.Int.{int_max}
+use Rattle.numbers.specs.Numbers.{◌⊕◌}
+use Rattle.numbers.specs.Words.{number}
+use Rattle.numbers.proofs.WordLaws.{back, number_max}
+use borrow.Author.Rules.{rules}
 use Rattle.numbers.proofs.larger.Goals as goal
 
-pub returns-then-a-b : goal.returns-then-a-b
-returns-then-a-b c =
-    let f = c.ranges.a in let g = c.ranges.b in
-    simp to_z-of_z (sym (≼_⊕ (number_mono f g (lt_yes f g c.if-a-b.true))))
+taken : {a b r : ℤ} → SFits w32 a → SFits w32 b → r ≡ int_max (to_z w32 (of_z w32 a)) (to_z w32 (of_z w32 b))
+    → mag r < 2147483648 → number (to_z w32 (of_z w32 r)) ≡ number a ⊕ number b
+taken f g e h = rw (back h, rw (to_z-of_z f, to_z-of_z g) at e) (number_max f g)
 
-pub returns-else-a-b : goal.returns-else-a-b
-returns-else-a-b c =
-    let f = c.ranges.a in let g = c.ranges.b in
-    simp to_z-of_z (sym (⊕_comm _ _ ∙ ≼_⊕ (number_mono g f (lt_no f g c.if-a-b.false))))
+pub returns : goal.returns
+returns c = search (rules, taken)

@@ -1,14 +1,8 @@
-use mathlib.Core.Path.{◌≡◌}
-use Prim.Native.Nat.{◌≤◌}
-use lib.ListN.{length}
+use Rattle.std.proofs.Common.{◌≡◌, length}
 use Rattle.numbers.specs.Places.{entries}
 use Rattle.numbers.specs.Weights.{allowed, cap_of, meet}
 use Rattle.numbers.proofs.weight.Given as goal
 
 abbrev pub invariant-loop-j : goal.invariant-loop-j
 invariant-loop-j l =
-    (l.j ≤ length l.x)
-    × (meet (allowed l.j (entries l.g) (entries l.x)) (cap_of l.m) ≡ allowed (length l.x) (entries l.g) (entries l.x))
-
-abbrev pub decreases-loop-j : goal.decreases-loop-j
-decreases-loop-j l = l.j
+    meet (allowed l.j (entries l.g) (entries l.x)) (cap_of l.m) ≡ allowed (length l.x) (entries l.g) (entries l.x)

@@ -1,3 +1,4 @@
+use Rattle.std.proofs.Common.{Err, Ok}
 use mathlib.Core.Path.{◌≡◌, sym, ◌∙◌, ap}
 use mathlib.Core.List.{List}
 use mathlib.Core.Bool.{Bool}
@@ -5,17 +6,16 @@ use Prim.Native.Nat.{ℕ, ◌+◌, ◌/◌}
 use native.Mathlib.Omega.{arith}
 use lib.IntN.{ℤ, pos}
 use lib.ListN.{length, take}
+use Rattle.std.proofs.lemmas.Result.{err_from_is_err_and}
 use Rattle.numbers.specs.Places.{Ended}
-use Rattle.sets.specs.declared.Checked.{Checked}
-use Rattle.sets.specs.declared.Told.TheVariants.{Refused}
-use Rattle.sets.specs.Rules.{tell, tell_after, inside, contains_checked, contains_of, generated}
-use Rattle.sets.specs.declared.Checked.TheVariants.{Good as Passed}
+use Rattle.sets.specs.Types.{Checked}
+use Rattle.sets.specs.Rules.{tell_after, inside, contains_checked, contains_of, generated}
 use Rattle.sets.specs.Calls.{contains_input}
 use Rattle.sets.specs.Demands.{Good}
 use Rattle.sets.proofs.TestLaws.{list_each}
 use Rattle.sets.proofs.FallLaws.{each_wider, testable_all}
 use Rattle.sets.proofs.Membership.{point_long, point_each, inside_by}
-use Rattle.sets.proofs.Asking.{passed_up, contains_as, contains_good}
+use Rattle.sets.proofs.Asking.{contains_as, contains_good}
 use Rattle.sets.proofs.contains.Goals as goal
 
 -- the answer after the checks, by the rule
@@ -25,48 +25,37 @@ unfolding contains_of
 after k n l p e = ap (λ (k : Checked). tell_after k (inside n l p)) e
 
 -- input that passed is good
-good : (n : ℕ) (l p : List ℤ) → Passed ≡ contains_checked n l p → Good (contains_input n l p)
+good : (n : ℕ) (l p : List ℤ) → Ok tt ≡ contains_checked n l p → Good (contains_input n l p)
 good n l p e = contains_good n l p (sym e)
 
 -- the test's answer, by the rule
-told : (n : ℕ) (l p words : List ℤ) {b : Bool} → Passed ≡ contains_checked n l p → Ended p (pos 0) words
-    → b ≡ generated l (length l / (n + 1)) (take (n + 1) words) → tell b ≡ contains_of n l p
+told : (n : ℕ) (l p words : List ℤ) {b : Bool} → Ok tt ≡ contains_checked n l p → Ended p (pos 0) words
+    → b ≡ generated l (length l / (n + 1)) (take (n + 1) words) → Ok b ≡ contains_of n l p
 told n l p words e v is =
     let g = good n l p e in
-    ap tell (is ∙ inside_by n p words g.0.2 g.0.0.few v l) ∙ after Passed n l p e
+    ap Ok (is ∙ inside_by n p words g.0.2 g.0.0.few v l) ∙ after (Ok tt) n l p e
 
-pub returns-in_default : goal.returns-in_default
-returns-in_default c =
-    contains_as _ _ _ (ap Refused c.why.ensures
-    ∙ passed_up c.contains-checked.result _ c.in_default.in_default-own.keys2
-    ∙ after _ _ _ _ c.contains-checked.ensures)
+pub returns-in_err-contains : goal.returns-in_err-contains
+returns-in_err-contains c =
+    let p = err_from_is_err_and c.from_residual.result c.from_residual.ensures.1 in
+    contains_as _ _ _ (p.1 ∙ ap Err p.2 ∙ after _ _ _ _ c.in_err-contains.ensures)
 
 pub overflow_add-w : goal.overflow_add-w
-overflow_add-w c = omega (arith, (good _ _ _ c.in-Good.ensures).0.0.few)
+overflow_add-w c = omega (arith, (good _ _ _ c.in_ok-contains.ensures).0.0.few)
 
 pub point-vector-requires : goal.point-vector-requires
-point-vector-requires c = let g = (good _ _ _ c.in-Good.ensures).0 in omega (arith, g.0.few, g.2)
+point-vector-requires c = let g = (good _ _ _ c.in_ok-contains.ensures).0 in omega (arith, g.0.few, g.2)
 
-pub slice_bounds-words-end : goal.slice_bounds-words-end
-slice_bounds-words-end c = omega (arith, (good _ _ _ c.in-Good.ensures).0.0.few, c.point-vector.ensures.long)
-
-pub slice_bounds-generates-end : goal.slice_bounds-generates-end
-slice_bounds-generates-end c =
-    let g = good _ _ _ c.in-Good.ensures in
-    sym (point_long _ _ _ g.0.2 g.0.0.few c.point-vector.ensures)
+pub shared_ref_as_front-generates : goal.shared_ref_as_front-generates
+shared_ref_as_front-generates c = omega (arith, (good _ _ _ c.in_ok-contains.ensures).0.0.few)
 
 pub generates-requires : goal.generates-requires
 generates-requires c =
-    let g = good _ _ _ c.in-Good.ensures in
+    let g = good _ _ _ c.in_ok-contains.ensures in
     let e = c.point-vector.ensures in
     testable_all _ _ _ g.0.0.few g.0.1.few (point_long _ _ _ g.0.2 g.0.0.few e)
     (each_wider (omega arith) (list_each _ _ g.0.1 g.1.0))
     (each_wider (omega arith) (point_each _ _ _ g.0.2 g.0.0.few e g.1.1))
 
-pub returns-then-generates : goal.returns-then-generates
-returns-then-generates c =
-    contains_as _ _ _ (told _ _ _ _ c.in-Good.ensures c.point-vector.ensures c.if-generates.ensures)
-
-pub returns-else-generates : goal.returns-else-generates
-returns-else-generates c =
-    contains_as _ _ _ (told _ _ _ _ c.in-Good.ensures c.point-vector.ensures c.if-generates.ensures)
+pub returns : goal.returns
+returns c = contains_as _ _ _ (told _ _ _ _ c.in_ok-contains.ensures c.point-vector.ensures c.generates.ensures)

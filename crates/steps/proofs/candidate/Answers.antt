@@ -5,5 +5,5 @@ use Rattle.steps.proofs.candidate.Goals as goal
 
 pub returns : goal.returns
 returns c = let a = c.args in
-    shown_begun c.begin-k.ensures (following a.n (edge_of a.n a.edge) (bounds_of a.n a.invariant))
+    shown_begun c.begin-k.ensures (following a.n (edge_of a.n a.edge.now) (bounds_of a.n a.invariant.now))
     c.followed-answer.ensures a.out.now c.show.ensures

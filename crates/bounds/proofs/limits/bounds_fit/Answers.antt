@@ -1,9 +1,12 @@
-use native.Mathlib.Omega.{arith}
-use Rattle.numbers.proofs.Tells.{never}
+use Rattle.std.proofs.Common.{rules}
+use Rattle.codec.proofs.PackedLaws.{packed_tells}
+use Rattle.bounds.proofs.EqualLaws.{bound_exact}
 use Rattle.bounds.proofs.limits.bounds_fit.Goals as goal
 
-pub returns-then-count-gt8 : goal.returns-then-count-gt8
-returns-then-count-gt8 c = never (λ w. omega (arith, c.if-count-gt8.true, w.few))
+pub packed-requires-clause-exact : goal.packed-requires-clause-exact
+packed-requires-clause-exact c = bound_exact
 
 pub returns : goal.returns
-returns c = c.items_fit.ensures
+returns c =
+    packed_tells (search rules) c.no_bound-blank.ensures c.packed.ensures.yes c.packed.ensures.no
+    (λ x b e. search rules)

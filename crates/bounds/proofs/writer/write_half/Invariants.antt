@@ -1,10 +1,8 @@
-use Prim.Native.Nat.{◌-◌}
-use Rattle.codec.proofs.WriteLaws.{Storing}
+use Rattle.std.proofs.Common.{take}
+use Rattle.codec.specs.Arrays.{each}
+use Rattle.codec.specs.Writing.{Wrote}
 use Rattle.bounds.specs.Written.{entry_bytes}
 use Rattle.bounds.proofs.writer.write_half.Given as goal
 
-abbrev pub invariant-loop-i : goal.invariant-loop-i
-invariant-loop-i l = Storing entry_bytes l.count l.half l.initial.out l.at l.i l.out l.from
-
-abbrev pub decreases-loop-i : goal.decreases-loop-i
-decreases-loop-i l = l.count - l.i
+abbrev pub invariant-loop-z : goal.invariant-loop-z
+invariant-loop-z l = Wrote l.initial.w (each entry_bytes (take l.z-index l.half)) l.w

@@ -6,19 +6,18 @@ use Rattle.making.proofs.CleanLaws.{try_long, clean_start, clean_more, clean_don
 use Rattle.making.proofs.clean.clean.Goals as goal
 
 pub loop-i-init : goal.loop-i-init
-loop-i-init c = (omega arith, refl, clean_start _ _ _ _ c.requires.on)
+loop-i-init c = (refl, clean_start _ _ _ _ c.requires.on)
 
 pub loop-i-preserved : goal.loop-i-preserved
 loop-i-preserved c =
     let l = c.loop-i in
-    let h : l.i < length c.args.alive.now = omega (arith, c.loop-i-test.true, l.invariant.1) in
+    let h : l.i < length c.args.alive.now = omega arith in
     let e = c.try_one.ensures in (
-      omega (arith, h),
-      try_long _ _ _ l.alive l.i _ e ∙ l.invariant.1,
-      clean_more _ _ _ l.alive l.i _ _ (length l.alive) l.invariant.1 e h l.invariant.2,
+      try_long _ _ _ l.alive l.i _ e ∙ l.invariant.0,
+      clean_more _ _ _ l.alive l.i _ _ (length l.alive) l.invariant.0 e h l.invariant.1,
     )
 
 pub returns : goal.returns
 returns c =
     let l = c.loop-i in
-    sym (clean_done _ _ _ l.alive l.i (rw (← l.invariant.1) c.loop-i-test.false)) ∙ l.invariant.2
+    sym (clean_done _ _ _ l.alive l.i c.loop-i-test.false) ∙ l.invariant.1

@@ -1,10 +1,10 @@
+use Rattle.std.proofs.Common.{Err}
 use mathlib.Core.Bool.{true, Bool, false}
 use mathlib.Core.Path.{◌≡◌, sym, ◌∙◌, ap}
-use mathlib.Core.List.{List, ◌++◌}
+use mathlib.Core.List.{List}
 use Prim.Native.Nat.{suc, ◌*◌, ℕ, ◌+◌}
 use native.Mathlib.Numerals.{add-one}
 use lib.ListN.{length, take, replicate}
-use lib.Seq.{take_at}
 use lib.IntN.{ℤ}
 use Rattle.numbers.specs.declared.Refusal.TheVariants.{Range}
 use Rattle.algebra.specs.Working.{some_point}
@@ -12,9 +12,8 @@ use Rattle.sets.specs.Rules.{flat, has_point}
 use Rattle.sorting.specs.Rows.{held}
 use Rattle.making.specs.Clean.{clean_flags}
 use Rattle.making.specs.Finish.{Writable, Writes, alive_ok, Finishable, Finishes}
-use Rattle.making.specs.declared.Made.{Made}
-use Rattle.making.specs.declared.Made.TheVariants.{Refused}
-use Rattle.making.proofs.FinishLaws.{point_held, finishes_none, trues_long, cleanable, flags_long, writable}
+use Rattle.making.specs.Types.{Made}
+use Rattle.making.proofs.FinishLaws.{point_held, finishes_none, trues_long, cleanable, writable}
 use Rattle.making.proofs.FinishLaws.{finishes_range, finishes_written}
 use Rattle.making.proofs.finish.finish.Goals as goal
 
@@ -29,32 +28,20 @@ module _ {n k : ℕ} {work area : List ℤ} {flags : List Bool} (g : Finishable 
   is : flags ≡ clean_flags (suc n) k (flat (suc n) work)
   is = cleaned ∙ ap (λ m. clean_flags (suc n) m (flat (suc n) work)) (trues_long k g.few)
 
-  -- they are what is lent of the whole array
-  lent : (rest : List Bool) → take k (flags ++ rest) ≡ flags
-  lent rest = take_at flags rest k (flags_long n work k area g flags is)
-
-  -- whether the vectors that are on are within the limits
-  fine : (rest : List Bool) {b : Bool} → b ≡ alive_ok n (take k (flags ++ rest)) (flat (suc n) work)
-      → alive_ok n flags (flat (suc n) work) ≡ b
-  fine rest e = sym (e ∙ ap (λ a. alive_ok n a (flat (suc n) work)) (lent rest))
-
   -- beyond the limits
-  beyond : (rest : List Bool) → true ≡ has_point n (take (k * (n + 1)) work)
-      → false ≡ alive_ok n (take k (flags ++ rest)) (flat (suc n) work)
-      → Finishes n (held (suc n) k work) area (Refused Range) area
-  beyond rest p e = finishes_range n work k area g flags is (pointed g p) (fine rest e)
+  beyond : true ≡ has_point n (take (k * (n + 1)) work) → false ≡ alive_ok n flags (flat (suc n) work)
+      → Finishes n (held (suc n) k work) area (Err Range) area
+  beyond p e = finishes_range n work k area g flags is (pointed g p) (sym e)
 
   -- the vectors that are on can be written
-  can_write : (rest : List Bool) → Writable n work (take k (flags ++ rest)) area
-  can_write rest = rw (lent rest) (writable n work k area g flags is)
+  can_write : Writable n work flags area
+  can_write = writable n work k area g flags is
 
   -- within the limits, and written
-  within : (rest : List Bool) → true ≡ has_point n (take (k * (n + 1)) work)
-      → true ≡ alive_ok n (take k (flags ++ rest)) (flat (suc n) work)
-      → (made : Made) (after : List ℤ) → Writes n work (take k (flags ++ rest)) area made after
+  within : true ≡ has_point n (take (k * (n + 1)) work) → true ≡ alive_ok n flags (flat (suc n) work)
+      → (made : Made) (after : List ℤ) → Writes n work flags area made after
       → Finishes n (held (suc n) k work) area made after
-  within rest p e made after w =
-      finishes_written n work k area g flags is (pointed g p) (fine rest e) made after (rw (lent rest) at w)
+  within p e = finishes_written n work k area g flags is (pointed g p) (sym e)
 
 pub returns-then-not-has_point : goal.returns-then-not-has_point
 returns-then-not-has_point c = finishes_none _ _ _ _ c.requires (pointed c.requires c.if-not-has_point.ensures)
@@ -64,11 +51,11 @@ clean-requires c = cleanable _ _ _ _ c.requires
 
 pub returns-then-not-fits : goal.returns-then-not-fits
 returns-then-not-fits c =
-    beyond c.requires c.clean.ensures _ c.if-not-has_point.ensures c.if-not-fits.ensures
+    beyond c.requires c.clean.ensures c.if-not-has_point.ensures c.if-not-fits.ensures
 
 pub write-requires : goal.write-requires
-write-requires c = can_write c.requires c.clean.ensures _
+write-requires c = can_write c.requires c.clean.ensures
 
 pub returns : goal.returns
 returns c =
-    within c.requires c.clean.ensures _ c.if-not-has_point.ensures c.if-not-fits.ensures _ _ c.write.ensures
+    within c.requires c.clean.ensures c.if-not-has_point.ensures c.if-not-fits.ensures _ _ c.write.ensures

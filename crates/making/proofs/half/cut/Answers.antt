@@ -55,11 +55,13 @@ module _ {n : ℕ} {list half work ls rs : List ℤ} (p : Cuttable n list half w
   gives : crossed_list n ls rs (vectors n list) ≡ intersect_list n (left n half) (right n half) (vectors n list)
   gives = crossed_is n _ _ (vectors n list) ls rs left_sides right_sides
 
-pub keep_all-requires-clause-halved : goal.keep_all-requires-clause-halved
-keep_all-requires-clause-halved c = halved c.requires c.sides.ensures c.sides-2.ensures
+pub invariant_of-halves : goal.invariant_of-halves
+invariant_of-halves c = record { halved = halved c.requires.cuttable c.sides.ensures c.sides-2.ensures }
 
-pub keep_all-requires-clause-room_of : goal.keep_all-requires-clause-room_of
-keep_all-requires-clause-room_of c = roomy c.requires c.sides.ensures c.sides-2.ensures
+pub keep_all-requires : goal.keep_all-requires
+keep_all-requires c =
+    record { room_of = rw c.requires.empty (roomy c.requires.cuttable c.sides.ensures c.sides-2.ensures) }
 
 pub returns : goal.returns
-returns c = rw (← gives c.requires c.sides.ensures c.sides-2.ensures) c.keep_all.ensures
+returns c =
+    rw (← gives c.requires.cuttable c.sides.ensures c.sides-2.ensures) (rw c.requires.empty at c.keep_all.ensures)

@@ -1,22 +1,21 @@
-use mathlib.Core.Path.{sym, ◌∙◌}
+use Rattle.std.proofs.Common.{rules, tests}
+use Rattle.std.proofs.lemmas.Iterator.{YieldsList-from_slice}
+use Rattle.std.proofs.lemmas.Iterator.Search.{all_from_yields_List}
+use mathlib.Core.Path.{◌∙◌}
 use native.Mathlib.Omega.{arith}
-use Rattle.numbers.proofs.Tells.{every_more, every_stop, every_done}
-use Rattle.making.specs.Finish.{row_ok}
-use Rattle.making.proofs.RangeLaws.{entry_test}
+use lib.IntN.{pos}
+use lib.ListN.{take}
+use Rattle.numbers.specs.Words.{number}
+use Rattle.numbers.specs.Places.{entries}
+use Rattle.algebra.specs.Working.{is_point}
+use Rattle.making.specs.Rules.{entry_ok}
+use Rattle.making.proofs.Rows.{all_every}
+use Rattle.making.proofs.RangeLaws.{point_last, row_front}
 use Rattle.making.proofs.range.row_fits.Goals as goal
 
-pub returns-then-not-entry_fits : goal.returns-then-not-entry_fits
-unfolding row_ok
-returns-then-not-entry_fits c =
-    let tested = c.if-not-entry_fits.ensures ∙ entry_test _ _ c.last-1.given c.entry_fits-arg-1.given in
-    sym (every_stop _ c.args.n c.loop-j.j (omega arith) (sym tested))
-
-pub loop-j-preserved : goal.loop-j-preserved
-loop-j-preserved c =
-    let l = c.loop-j in
-    let tested = c.if-not-entry_fits.ensures ∙ entry_test _ _ c.last-1.given c.entry_fits-arg-1.given in
-    (omega arith, every_more _ l.j l.invariant.1 (sym tested))
-
 pub returns : goal.returns
-unfolding row_ok
-returns c = every_done _ c.args.n c.loop-j.j (omega arith) c.loop-j.invariant.1
+returns c =
+    let a = c.args in
+    all_from_yields_List (λ x. entry_ok (is_point (entries a.vector.now a.n)) (number x)) _ _ _ c.all.ensures.ran
+    (YieldsList-from_slice (take a.n a.vector.now) (cc)) (λ x b q k. search (rules, tests, point_last))
+    ∙ all_every _ (take a.n a.vector.now) (pos 0) ∙ row_front a.n a.vector.now (omega arith)

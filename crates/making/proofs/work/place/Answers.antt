@@ -1,5 +1,5 @@
 use native.Mathlib.Omega.{arith}
-use mathlib.Core.Path.{◌≡◌, sym, ◌∙◌}
+use mathlib.Core.Path.{◌≡◌}
 use mir.Facts.{to_z-of_z}
 use Rattle.numbers.specs.Numbers.{fin, Within}
 use Rattle.numbers.specs.Words.{number}
@@ -27,9 +27,6 @@ loop-j-preserved c =
     rw (to_z-of_z c.ranges.by, back c.product.type_inv)
     (shifting_next _ _ l.out l.j _ (rw (to_z-of_z c.ranges.by) at l.invariant) (omega arith)
     (rw (to_z-of_z c.ranges.by, back h, e) at c.product.ensures))
-
-pub shape_of-out : goal.shape_of-out
-shape_of-out c = c.loop-j.invariant.long ∙ sym c.requires.0
 
 pub returns : goal.returns
 returns c =

@@ -61,7 +61,7 @@ returns-then-most c =
     none _ _ _ c.requires.0 c.requires.1 c.last-1.given c.if-last.false c.side-most.ensures
     (is_mark_lem (record { sfits = c.side-most.type_inv }) c.if-most.true)
 
-pub returns : goal.returns
-returns c =
+pub returns-else-most : goal.returns-else-most
+returns-else-most c =
     some _ _ _ c.requires.0 c.requires.1 c.last-1.given c.if-last.false c.side-most.ensures
     c.requires.2 c.side-most.type_inv (not_mark (record { sfits = c.side-most.type_inv }) c.if-most.false)

@@ -1,25 +1,19 @@
-use mathlib.Core.Path.{ap, ◌∙◌}
-use Rattle.codec.specs.Answers.{why_step}
-use Rattle.codec.proofs.FormLaws.{stepped, unstepped}
-use Rattle.model.proofs.SurveyLaws.{place_start, place_step, place_stop, place_done}
+use mathlib.Core.Path.{refl}
+use Rattle.std.proofs.lemmas.Result.{err_from_is_err_and}
+use Rattle.codec.proofs.ArrayLaws.{pass_stop, pass_done}
+use Rattle.model.proofs.SurveyLaws.{place_start, place_step}
 use Rattle.model.proofs.places.list_places.Goals as goal
 
-pub loop-i-init : goal.loop-i-init
-loop-i-init c = place_start
+pub loop-place-init : goal.loop-place-init
+loop-place-init c = place_start refl c.requires.1
 
-pub returns-in_default : goal.returns-in_default
-returns-in_default c =
-    let stop = unstepped c.read_bounds-r.ensures c.in_default.is in
-    let why = c.why.ensures ∙ ap why_step c.in_default.is in
-    place_stop c.loop-i.invariant
-    c.loop-i-test.true stop why
+pub returns-in_err-after : goal.returns-in_err-after
+returns-in_err-after c =
+    let p = err_from_is_err_and c.from_residual.result c.from_residual.ensures.1 in
+    rw (p.1, p.2) (pass_stop c.loop-place.invariant.pass c.loop-place-test.true c.in_err-after.ensures)
 
-pub loop-i-preserved : goal.loop-i-preserved
-loop-i-preserved c =
-    place_step c.loop-i.invariant
-    c.requires.1
-    c.loop-i-test.true
-    (stepped c.read_bounds-r.ensures c.in-At.is)
+pub loop-place-preserved : goal.loop-place-preserved
+loop-place-preserved c = place_step c.loop-place.invariant c.loop-place-test.true c.in_ok-after.ensures
 
 pub returns : goal.returns
-returns c = place_done c.loop-i.invariant c.requires.1 c.loop-i-test.false
+returns c = pass_done c.loop-place.invariant.pass c.loop-place-test.false

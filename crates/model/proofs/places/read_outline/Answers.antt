@@ -1,110 +1,93 @@
+use mathlib.Core.Path.{refl, sym}
+use Prim.Native.Nat.{ℕ, ◌<◌}
 use native.Mathlib.Omega.{arith}
-use Prim.Native.Nat.{◌<◌}
-use mathlib.Core.Path.{ap, ◌∙◌}
-use Rattle.codec.specs.Answers.{why_step}
-use Rattle.codec.proofs.FormLaws.{after, stops, stepped, unstepped, finished}
+use Rattle.std.proofs.lemmas.Result.{err_from_is_err_and}
+use Rattle.codec.proofs.FormLaws.{first_refused}
+use Rattle.codec.proofs.FormEnds.{left_ends}
+use Rattle.codec.proofs.ArrayLaws.{taken}
 use Rattle.codec.proofs.PackedLaws.{all_of}
 use Rattle.model.specs.Models.{model_form}
-use Rattle.model.proofs.ModelSize.{found_head}
-use Rattle.model.proofs.ReadLaws.{first_fault, bytes_over, whole_listed, outline_refuses, outline_gives}
-use Rattle.model.proofs.SurveyLaws.{placed, unplaced}
+use Rattle.model.proofs.ReadLaws.{
+  counts,
+  outline_refuses,
+  lists_refused,
+  lists_end,
+  edges_refused,
+  target_refused,
+  target_short,
+  goal_refused,
+  bytes_over,
+  outline_read,
+}
 use Rattle.model.proofs.places.read_outline.Goals as goal
 
-pub returns-in_default : goal.returns-in_default
+pub returns-in_err-head : goal.returns-in_err-head
 unfolding model_form
-returns-in_default c =
-    let told = c.in_default.is in
-    let why = c.why.ensures ∙ ap why_step told in
-    let head = unstepped c.read_head-h.ensures told in
-    outline_refuses (first_fault (stops _ _ head) why) c.refused_outline.ensures
+returns-in_err-head c =
+    let p = err_from_is_err_and c.from_residual.result c.from_residual.ensures.1 in
+    rw (p.1, p.2) (outline_refuses (first_refused _ _ _ c.in_err-head.ensures))
 
-pub list_places-i-requires : goal.list_places-i-requires
-list_places-i-requires c =
-    let head = stepped c.read_head-h.ensures c.in-At.is in
-    let counts = found_head head in
-    (counts.0, counts.1)
+pub slice_bounds-invariants-end : goal.slice_bounds-invariants-end
+slice_bounds-invariants-end c = (counts _ _ _ c.in_ok-head.ensures).1
 
-pub returns-in_default-invariants_step : goal.returns-in_default-invariants_step
-unfolding model_form
-returns-in_default-invariants_step c =
-    let told = c.in_default-invariants_step.is in
-    let why = c.why-in_default-invariants_step.ensures ∙ ap why_step told in
-    let head = stepped c.read_head-h.ensures
-    c.in-At.is in
-    let lists = unplaced c.list_places-i.ensures told in
-    outline_refuses (first_fault (after _ _ head (stops _ _ lists)) why) c.refused_outline-in_default-invariants_step.ensures
+pub slice_bounds-list_places-end : goal.slice_bounds-list_places-end
+slice_bounds-list_places-end c = sym (taken {A = ℕ} 32 _ 0 (counts _ _ _ c.in_ok-head.ensures).1)
 
-pub edge_places-e-requires : goal.edge_places-e-requires
-edge_places-e-requires c =
-    let head = stepped c.read_head-h.ensures
-    c.in-At.is in
-    let counts = found_head head in
-    (counts.0, counts.2)
+pub list_places-requires : goal.list_places-requires
+list_places-requires c = ((counts _ _ _ c.in_ok-head.ensures).0, left_ends _ _ c.in_ok-head.ensures)
 
-pub returns-in_default-edges_step : goal.returns-in_default-edges_step
-unfolding model_form
-returns-in_default-edges_step c =
-    let told = c.in_default-edges_step.is in
-    let why = c.why-in_default-edges_step.ensures ∙ ap why_step told in
-    let head = stepped c.read_head-h.ensures
-    c.in-At.is in
-    let lists = placed c.list_places-i.ensures
-    c.in-At-invariants_step.is in
-    let edges = unplaced c.edge_places-e.ensures.stand told in
-    outline_refuses (first_fault (after _ _ head (after _ _ lists (stops _ _ edges))) why)
-    c.refused_outline-in_default-edges_step.ensures
+pub returns-in_err-s : goal.returns-in_err-s
+returns-in_err-s c =
+    let p = err_from_is_err_and c.from_residual-in_err-s.result c.from_residual-in_err-s.ensures.1 in
+    rw (p.1, p.2) (lists_refused _ _ _ c.in_ok-head.ensures c.in_err-s.ensures)
 
-pub read_goal-g-requires : goal.read_goal-g-requires
-read_goal-g-requires c =
-    let head = stepped c.read_head-h.ensures
-    c.in-At.is in
-    (found_head head).0
+pub slice_bounds-steps-end : goal.slice_bounds-steps-end
+slice_bounds-steps-end c = (counts _ _ _ c.in_ok-head.ensures).2
 
-pub returns-in_default-goal_step : goal.returns-in_default-goal_step
-unfolding model_form
-returns-in_default-goal_step c =
-    let told = c.in_default-goal_step.is in
-    let why = c.why-in_default-goal_step.ensures ∙ ap why_step told in
-    let head = stepped c.read_head-h.ensures
-    c.in-At.is in
-    let lists = placed c.list_places-i.ensures
-    c.in-At-invariants_step.is in
-    let edges = placed c.edge_places-e.ensures.stand
-    c.in-At-edges_step.is in
-    let goal = unstepped c.read_goal-g.ensures.reads told in
-    outline_refuses (first_fault (after _ _ head (after _ _ lists (after _ _ edges (stops _ _ goal)))) why)
-    c.refused_outline-in_default-goal_step.ensures
+pub slice_bounds-edge_places-end : goal.slice_bounds-edge_places-end
+slice_bounds-edge_places-end c = sym (taken {A = ℕ} 64 _ 0 (counts _ _ _ c.in_ok-head.ensures).2)
 
-pub returns-then-end-bytes : goal.returns-then-end-bytes
-unfolding model_form
-returns-then-end-bytes c =
-    let head = stepped c.read_head-h.ensures
-    c.in-At.is in
-    let lists = placed c.list_places-i.ensures
-    c.in-At-invariants_step.is in
-    let edges = placed c.edge_places-e.ensures.stand
-    c.in-At-edges_step.is in
-    let goal = stepped c.read_goal-g.ensures.reads
-    c.in-At-goal_step.is in
-    let found = after _ _ head (after _ _ lists (after _ _ edges (after _ _ goal finished))) in
-    outline_refuses (bytes_over found c.if-end-bytes.true) c.refused_outline-then-end-bytes.ensures
+pub slice_bounds-sources-end : goal.slice_bounds-sources-end
+slice_bounds-sources-end c = (counts _ _ _ c.in_ok-head.ensures).2
+
+pub slice_bounds-edge_places-end-2 : goal.slice_bounds-edge_places-end-2
+slice_bounds-edge_places-end-2 c = sym (taken {A = ℕ} 64 _ 0 (counts _ _ _ c.in_ok-head.ensures).2)
+
+pub edge_places-requires : goal.edge_places-requires
+edge_places-requires c =
+    ((counts _ _ _ c.in_ok-head.ensures).0, lists_end _ _ _ c.in_ok-head.ensures _ _ c.in_ok-s.ensures, refl)
+
+pub returns-in_err-s-2 : goal.returns-in_err-s-2
+returns-in_err-s-2 c =
+    let p = err_from_is_err_and c.from_residual-in_err-s-2.result c.from_residual-in_err-s-2.ensures.1 in
+    rw (p.1, p.2) (edges_refused _ _ _ c.in_ok-head.ensures _ _ c.in_ok-s.ensures c.in_err-s-2.ensures.read)
+
+pub returns-in_err-list : goal.returns-in_err-list
+returns-in_err-list c =
+    let p = err_from_is_err_and c.from_residual-in_err-list.result c.from_residual-in_err-list.ensures.1 in
+    rw (p.1, p.2)
+    (target_refused _ _ _ c.in_ok-head.ensures _ _ c.in_ok-s.ensures _ _ c.in_ok-s-2.ensures.read c.in_err-list.ensures)
+
+pub read_goal-requires : goal.read_goal-requires
+read_goal-requires c = (counts _ _ _ c.in_ok-head.ensures).0
+
+pub returns-in_err-goal : goal.returns-in_err-goal
+returns-in_err-goal c =
+    let p = err_from_is_err_and c.from_residual-in_err-goal.result c.from_residual-in_err-goal.ensures.1 in
+    rw (p.1, p.2)
+    (goal_refused _ _ _ c.in_ok-head.ensures _ _ c.in_ok-s.ensures _ _ c.in_ok-s-2.ensures.read c.in_err-goal.ensures)
+
+pub returns-then-not-is_empty : goal.returns-then-not-is_empty
+returns-then-not-is_empty c =
+    bytes_over _ _ _ c.in_ok-head.ensures _ _ c.in_ok-s.ensures _ _ c.in_ok-s-2.ensures.read _ _ c.in_ok-list.ensures
+    _ _ c.in_ok-goal.ensures c.if-not-is_empty.ensures
+
+pub overflow_sub-result : goal.overflow_sub-result
+overflow_sub-result c =
+    target_short _ _ _ c.in_ok-head.ensures _ _ c.in_ok-s.ensures _ _ c.in_ok-s-2.ensures.read _ _ c.in_ok-list.ensures
 
 pub returns : goal.returns
-unfolding model_form
 returns c =
-    let bytes = all_of (λ b. b < 256) 0 c.args.bytes.now
-    (λ i h. omega (arith, c.shared_slice_known-1.given i)) in
-    let head = stepped c.read_head-h.ensures
-    c.in-At.is in
-    let lists = placed c.list_places-i.ensures
-    c.in-At-invariants_step.is in
-    let edges = placed c.edge_places-e.ensures.stand
-    c.in-At-edges_step.is in
-    let goal-read = c.read_goal-g.ensures in
-    let goal = stepped goal-read.reads c.in-At-goal_step.is in
-    let found = after _ _ head (after _ _ lists (after _ _ edges (after _ _ goal finished))) in
-    let list = goal-read.stands _ c.in-At-goal_step.is in
-    let placing = c.edge_places-e.ensures in
-    outline_gives bytes (whole_listed found c.if-end-bytes.false list)
-    c.list_places-i.ensures.long placing.stand.long
-    (placing.leave _ c.in-At-edges_step.is)
+    let bytes = all_of (λ b. b < 256) 0 c.args.bytes.now (λ i h. omega (arith, c.type_inv.bytes i)) in
+    outline_read _ _ _ c.in_ok-head.ensures _ _ c.in_ok-s.ensures _ _ c.in_ok-s-2.ensures.read _ _ c.in_ok-list.ensures
+    _ _ c.in_ok-goal.ensures _ c.in_ok-s-2.ensures.leave bytes c.if-not-is_empty.ensures

@@ -1,27 +1,18 @@
-use mathlib.Core.Path.{ap, ◌∙◌}
-use Rattle.codec.specs.Answers.{why_step}
-use Rattle.codec.proofs.ArrayLaws.{fill_start, fill_step, fill_stop, fill_done}
-use Rattle.codec.proofs.FormLaws.{stepped, unstepped, refusing, giving, blank_beside}
+use borrow.Author.Rules.{rules}
+use Rattle.std.proofs.lemmas.Result.{err_from_is_err_and}
+use Rattle.codec.proofs.ArrayLaws.{items_gave, items_refused}
+use Rattle.model.specs.Models.{no_edge, edge_form}
 use Rattle.model.proofs.reader.read_edges.Goals as goal
 
-pub loop-i-init : goal.loop-i-init
-loop-i-init c = rw c.no_edge-e.ensures fill_start
-
-pub returns-in_default : goal.returns-in_default
-returns-in_default c =
-    let stop = unstepped c.read_edge-r.ensures c.in_default.is in
-    let why = c.why.ensures ∙ ap why_step c.in_default.is in
-    rw c.no_edge-e.ensures
-    (refusing
-    (fill_stop c.loop-i.invariant
-    c.loop-i-test.true stop) why blank_beside)
-
-pub loop-i-preserved : goal.loop-i-preserved
-loop-i-preserved c = fill_step c.loop-i.invariant
-    c.requires.1
-    c.loop-i-test.true
-    (stepped c.read_edge-r.ensures c.in-At.is)
+pub returns-in_err-s : goal.returns-in_err-s
+returns-in_err-s c =
+    let p = err_from_is_err_and c.from_residual.result c.from_residual.ensures.1 in
+    rw (p.1, p.2)
+    (items_refused (edge_form c.args.n c.args.l) 64 _ no_edge _ c.requires.1
+    (rw c.no_edge-steps.ensures at (c.in_err-s.ensures (edge_form c.args.n c.args.l) (λ x r h. search rules))))
 
 pub returns : goal.returns
 returns c =
-    giving (fill_done c.loop-i.invariant c.requires.1 c.loop-i-test.false)
+    rw c.no_edge-steps.ensures
+    (items_gave (edge_form c.args.n c.args.l) 64 _ no_edge _ c.requires.1
+    (rw c.no_edge-steps.ensures at (c.in_ok-s.ensures (edge_form c.args.n c.args.l) (λ x r h. search rules))))

@@ -1,56 +1,45 @@
-use mathlib.Core.Path.{sym, ◌∙◌, ap, ◌≡◌}
+use mathlib.Core.Path.{◌≡◌, sym, ◌∙◌, subst}
 use mathlib.Core.List.{List}
-use mathlib.Core.Bool.{Bool}
-use Prim.Native.Nat.{◌+◌, ◌*◌, ◌/◌, ℕ, ◌-◌, ◌<◌}
-use native.Mathlib.Nat.{le_antisymm}
+use Prim.Native.Nat.{suc, ◌+◌, ◌*◌, ◌/◌}
+use native.Mathlib.Numerals.{add-one}
 use native.Mathlib.Omega.{arith}
+use borrow.Author.Tests.{tests}
 use lib.IntN.{ℤ}
-use lib.ListN.{length, take, drop}
-use Rattle.numbers.proofs.Tells.{every_more, every_stop, every_done}
-use Rattle.sets.specs.Rules.{generated, attained, flat}
-use Rattle.sets.proofs.RowLaws.{row_inside, part_is, part_long}
+use lib.ListN.{length}
+use Rattle.std.proofs.Common.{rules}
+use Rattle.std.specs.Slice.Iter.{chunks_exact_rest, chunks_exact_size}
+use Rattle.numbers.specs.Places.{Each}
+use Rattle.sets.specs.Tests.{part}
+use Rattle.sets.specs.Rules.{covered, covers, generated, flat}
+use Rattle.sets.proofs.RowLaws.{row_inside, part_long}
 use Rattle.sets.proofs.FlatLaws.{part_flat}
-use Rattle.sets.proofs.FallLaws.{each_part, testable_all}
-use Rattle.sets.proofs.Membership.{generated_as, covered_by}
+use Rattle.sets.proofs.Chains.{all_by, chunks, further, serves}
+use Rattle.sets.proofs.Membership.{generated_as}
+use Rattle.sets.proofs.FallLaws.{each_cut, testable_all}
 use Rattle.sets.proofs.against.covered.Goals as goal
 
--- what the test of vector i says
-tested : (n : ℕ) (inner outer : List ℤ) (i : ℕ) {b : Bool} → i < length inner / (n + 1)
-    → b ≡ generated outer (length outer / (n + 1))
-    (take (i * (n + 1) + (n + 1) - i * (n + 1)) (drop (i * (n + 1)) inner))
-    → attained (n + 1) (length outer / (n + 1)) (flat (n + 1) outer) (flat (n + 1) inner i) ≡ b
-tested n inner outer i l e =
-    let w = n + 1 in
-    sym (e ∙ ap (λ (v : List ℤ). generated outer (length outer / w) v) (part_is inner (i * w) w)
-    ∙ generated_as outer _ _ w _ (part_long inner (i * w) w (row_inside i w _ l)) (λ j b. part_flat w inner i j b))
-
-pub generates-requires : goal.generates-requires
-generates-requires c =
+pub all-requires-clause-callable : goal.all-requires-clause-callable
+all-requires-clause-callable c =
     let p = c.requires in
-    let l = c.args.inner.now in
-    let w = c.args.n + 1 in
-    let at = c.loop-i.i * w in
-    let r = row_inside c.loop-i.i _ _ c.loop-i-test.true in
-    rw (part_is l at w) (testable_all c.args.n _ _ p.few p.few_vectors (part_long l at w r) p.of_outer
-    (each_part l at w r p.of_inner))
-
-pub returns-then-not-generates : goal.returns-then-not-generates
-returns-then-not-generates c =
-    let a = c.args in
-    let l = c.loop-i-test.true in
-    sym (every_stop _ _ c.loop-i.i l (tested a.n a.inner.now a.outer.now c.loop-i.i l c.if-not-generates.ensures))
-    ∙ covered_by a.n _ _
-
-pub loop-i-preserved : goal.loop-i-preserved
-loop-i-preserved c =
-    let a = c.args in
-    let l = c.loop-i in (
-      omega arith,
-      every_more _ l.i l.invariant.1
-          (tested a.n a.inner.now a.outer.now l.i c.loop-i-test.true c.if-not-generates.ensures),
-    )
+    let e = c.chunks_exact.ensures in
+    serves (λ s. (chunks_exact_size s ≡ c.args.n + 1) × Each 100000000 (chunks_exact_rest s))
+    (λ s x t h k.
+    let cut = each_cut _ _ _ k.1.0 h.1 in
+    let test = testable_all c.args.n _ _ p.few p.few_vectors (k.1.1 ∙ h.0) p.of_outer cut.0 in
+    ((k.0 ∙ h.0, cut.1), search rules))
+    (λ x q k. search (rules, tests)) (e.size, subst (Each 100000000) (sym e.rest) p.of_inner)
 
 pub returns : goal.returns
+unfolding covered covers part
 returns c =
-    let l = c.loop-i in
-    every_done _ _ l.i (le_antisymm l.invariant.0 c.loop-i-test.false) l.invariant.1 ∙ covered_by c.args.n _ _
+    let e = c.chunks_exact.ensures in
+    let n = c.args.n in
+    let w = suc n in
+    let inner = c.args.inner.now in
+    let outer = c.args.outer.now in
+    let m = length outer / (n + 1) in
+    all_by (further (chunks inner w (omega arith) e.rest (e.size ∙ add-one n) e.runs)
+    (λ (v : List ℤ). generated outer m v) (covers n inner outer)
+    (λ k l. generated_as outer m _ w (flat w inner k) (part_long inner (k * w) w (row_inside k w _ l))
+    (λ j b. part_flat w inner k j b) ∙ rw (add-one n)))
+    (λ b. b) (λ a r g k. search (rules, tests)) (λ x b k. search (rules, tests)) _ c.all.ensures.runs

@@ -1,19 +1,16 @@
-use mathlib.Core.Path.{sym}
 use native.Mathlib.Omega.{arith}
 use Rattle.sets.specs.Falls.{all_used}
-use Rattle.sets.proofs.FallLaws.{blank_long, gathered_blank, ends_generated}
+use Rattle.sets.proofs.FallLaws.{gathered_blank, ends_generated}
 use Rattle.sets.proofs.against.generates.Goals as goal
 
-pub slice_bounds-gather_all-end : goal.slice_bounds-gather_all-end
-slice_bounds-gather_all-end c = sym (blank_long _ _ c.requires.few)
+pub gather-requires-clause-testable : goal.gather-requires-clause-testable
+unfolding all_used
+gather-requires-clause-testable c = c.requires
 
-pub gather_all-j-requires : goal.gather_all-j-requires
-gather_all-j-requires c = let p = c.requires in record {
-  testable = p;
-  gathered = gathered_blank _ _ _ p.few;
-}
+pub gather-requires-clause-gathered : goal.gather-requires-clause-gathered
+gather-requires-clause-gathered c = gathered_blank _ _ _ c.requires.few
 
 pub returns : goal.returns
 unfolding all_used
 returns c =
-    ends_generated _ c.args.m _ _ _ (omega (arith, c.requires.flags)) c.gather_all-j.ensures
+    ends_generated _ c.args.m _ _ _ _ (omega (arith, c.requires.flags)) c.gather.ensures c.is_none.ensures

@@ -1,36 +1,30 @@
-use native.Mathlib.Omega.{arith}
-use borrow.Author.Count.{below_more}
+use Rattle.std.proofs.Common.{rules, Option, None, Some}
+use mathlib.Core.List.{List}
+use Prim.Native.Nat.{ℕ, ◌≤◌, ◌<◌}
+use borrow.Author.Tests.{tests}
+use lib.IntN.{ℤ}
+use lib.ListN.{length}
+use Rattle.std.specs.Prelude.{MatchOption}
+use Rattle.std.proofs.lemmas.Iterator.{first_from_Range}
+use Rattle.numbers.specs.Numbers.{◌≼◌}
+use Rattle.numbers.specs.Places.{entries}
+use Rattle.sets.specs.Falls.{Next}
 use Rattle.sets.proofs.FallLaws.{place_short, place_enough}
 use Rattle.sets.proofs.against.next.Goals as goal
 
-pub loop-j-init : goal.loop-j-init
-loop-j-init c = (omega arith, omega arith, λ k l f. absurd (omega arith))
-
-pub returns-then-r-x : goal.returns-then-r-x
-returns-then-r-x c =
-    let l = c.loop-j in
-    record {
-      onward = omega arith;
-      inside = omega arith;
-      passed = λ k f b. l.invariant.2 k b f;
-      short = λ b. place_short _ _ c.r-1.given c.t9-1.given c.if-r-x.true;
-    }
-
-pub loop-j-preserved : goal.loop-j-preserved
-loop-j-preserved c =
-    let l = c.loop-j in (
-      omega arith,
-      omega arith,
-      below_more _ l.j l.invariant.2
-          (λ f. place_enough _ _ c.r-1.given c.t9-1.given c.if-r-x.false),
-    )
+-- what `find` answers over the entries from `from` on
+found : (from : ℕ) (reached x : List ℤ) (r : Option ℕ)
+    → MatchOption r ((k : ℕ) → from ≤ k → k < length x → entries x k ≼ entries reached k)
+    (λ i. (from ≤ i) × (i < length x) × ¬ (entries x i ≼ entries reached i)
+    × ((k : ℕ) → from ≤ k → k < i → entries x k ≼ entries reached k))
+    → Next from reached x r
+found from reached x None h = h
+found from reached x (Some i) h = record { onward = h.0; inside = h.1; passed = h.3; short = h.2 }
 
 pub returns : goal.returns
 returns c =
-    let l = c.loop-j in
-    record {
-      onward = omega arith;
-      inside = omega arith;
-      passed = λ k f b. l.invariant.2 k b f;
-      short = λ b. absurd (omega arith);
-    }
+    let x = c.args.x.now in
+    let reached = c.args.reached.now in
+    found _ _ _ _ (first_from_Range _ _ _ c.find.result
+    (λ k. ¬ (entries x k ≼ entries reached k)) (λ k. entries x k ≼ entries reached k)
+    c.find.ensures.ran (λ j q k. search (rules, tests, place_short)) (λ j q k. search (rules, tests, place_enough)))

@@ -1,50 +1,23 @@
-use mathlib.Core.Path.{refl, sym}
-use native.Mathlib.Nat.{le_antisymm}
-use native.Mathlib.Omega.{arith}
+use mathlib.Core.Path.{◌∙◌}
+use Prim.Native.Nat.{suc}
 use native.Mathlib.Numerals.{add-one}
-use Rattle.numbers.proofs.Tells.{some_more, some_stop, some_done}
-use Rattle.numbers.proofs.WordLaws.{is_mark_lem, not_mark}
-use Rattle.sets.specs.Rules.{flat, has_point}
-use Rattle.sets.proofs.EntryLaws.{finite_mark, finite_other}
-use Rattle.sets.proofs.RowLaws.{row_inside, row_few}
+use native.Mathlib.Omega.{arith}
+use borrow.Author.Tests.{tests}
+use Rattle.std.proofs.Common.{rules}
+use Rattle.numbers.specs.Words.{number}
+use Rattle.numbers.specs.Places.{entries}
+use Rattle.sets.specs.Tests.{finite, part}
+use Rattle.sets.specs.Rules.{has_point, flat}
+use Rattle.sets.proofs.Chains.{any_by, chunks, further}
+use Rattle.sets.proofs.FlatLaws.{part_flat}
 use Rattle.sets.proofs.entries.has_point.Goals as goal
 
-pub loop-i-init : goal.loop-i-init
-loop-i-init c = (omega arith, refl)
-
-pub overflow_mul-last : goal.overflow_mul-last
-overflow_mul-last c = omega (arith, c.well_formed, row_inside c.loop-i.i _ _ c.loop-i-test.true)
-
-pub overflow_add-last : goal.overflow_add-last
-overflow_add-last c = omega (arith, c.well_formed, row_inside c.loop-i.i _ _ c.loop-i-test.true)
-
-pub offset_bounds-list-i : goal.offset_bounds-list-i
-offset_bounds-list-i c = omega (arith, c.well_formed, row_inside c.loop-i.i _ _ c.loop-i-test.true)
-
-pub bounds-list-i : goal.bounds-list-i
-bounds-list-i c =
-    omega (arith, c.well_formed, row_inside c.loop-i.i _ _ c.loop-i-test.true)
-
-pub returns-then-last : goal.returns-then-last
-unfolding has_point flat
-returns-then-last c =
-    rw (← add-one c.args.n)
-    (sym (some_stop _ _ c.loop-i.i c.loop-i-test.true
-    (finite_other (not_mark (record { sfits = c.last-1.given }) c.if-last.true))))
-
-pub overflow_add-i : goal.overflow_add-i
-overflow_add-i c = omega (arith, row_few c.loop-i.i _ _ c.loop-i-test.true)
-
-pub loop-i-preserved : goal.loop-i-preserved
-unfolding flat
-loop-i-preserved c =
-    let l = c.loop-i in
-    let m = is_mark_lem (record { sfits = c.last-1.given }) c.if-last.false in
-    (omega arith, some_more _ l.i l.invariant.1 (finite_mark m))
-
 pub returns : goal.returns
-unfolding has_point
+unfolding has_point part number
 returns c =
-    let l = c.loop-i in
-    rw (← add-one c.args.n)
-    (some_done _ _ l.i (le_antisymm l.invariant.0 c.loop-i-test.false) l.invariant.1)
+    let e = c.chunks_exact.ensures in
+    let n = c.args.n in
+    let list = c.args.list.now in
+    any_by (further (chunks list (suc n) (omega arith) e.rest (e.size ∙ add-one n) e.runs)
+    (λ v. entries v n) (λ k. flat (suc n) list k n) (λ k l. part_flat (suc n) list k n (omega arith)))
+    finite (λ a r g k. search (rules, tests)) (λ x b k. search (rules, tests)) _ c.any.ensures.runs

@@ -1,4 +1,3 @@
-use native.Mathlib.Omega.{arith}
 use lib.IntN.{pos}
 use lib.ListN.{replicate}
 use Rattle.model.specs.Plain.{bound_by}
@@ -6,26 +5,20 @@ use Rattle.model.proofs.PlainLimits.{bound_plain}
 use Rattle.runs.specs.Rule.{cut}
 use Rattle.runs.specs.Table.{half_of}
 use Rattle.steps.specs.Working.{front, Stepped}
-use Rattle.steps.proofs.FrontLaws.{working_small, working_inside, blank_memory, stepped_moved}
+use Rattle.steps.proofs.FrontLaws.{blank_memory, stepped_moved}
 use Rattle.steps.proofs.Calls.{cut_called, cut_sound, showable}
 use Rattle.steps.proofs.list.cut.Goals as goal
 use Rattle.steps.proofs.list.cut.Goals.{After-intersect-answer}
 
 -- what the call leaves
 stepped : (c : After-intersect-answer) → let a = c.args in
-    Stepped a.n (cut a.n (half_of a.n (bound_by a.n a.b a.b.kind)) (front a.n a.k a.work.now))
+    Stepped a.n (cut a.n (half_of a.n (bound_by a.n a.b.now a.b.now.kind)) (front a.n a.k a.work.now))
     c.intersect-answer.result c.intersect-answer.new.out
 stepped c =
     let a = c.args in
     let h = c.requires.0 in
     cut_called a.n a.k a.work.now h (replicate 224 (pos 0)) (blank_memory a.n h.memory.clocks) _ _
-    (bound_by a.n a.b a.b.kind) (bound_plain a.n a.b c.requires.1) _ c.half-words.ensures c.intersect-answer.ensures
-
-pub overflow_mul-k : goal.overflow_mul-k
-overflow_mul-k c = record { fits = omega (arith, working_small c.requires.0) }
-
-pub slice_bounds-intersect-end : goal.slice_bounds-intersect-end
-slice_bounds-intersect-end c = working_inside c.requires.0
+    (bound_by a.n a.b.now a.b.now.kind) (bound_plain a.n a.b.now c.requires.1) _ c.half-words.ensures c.intersect-answer.ensures
 
 pub show-requires : goal.show-requires
 show-requires c =

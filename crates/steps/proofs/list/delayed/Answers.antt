@@ -1,9 +1,8 @@
-use native.Mathlib.Omega.{arith}
 use lib.IntN.{pos}
 use lib.ListN.{replicate}
 use Rattle.runs.specs.Rule.{delayed}
 use Rattle.steps.specs.Working.{front, Stepped}
-use Rattle.steps.proofs.FrontLaws.{working_small, working_inside, blank_memory, stepped_moved}
+use Rattle.steps.proofs.FrontLaws.{blank_memory, stepped_moved}
 use Rattle.steps.proofs.Calls.{delayed_called, delayed_sound, showable}
 use Rattle.steps.proofs.list.delayed.Goals as goal
 use Rattle.steps.proofs.list.delayed.Goals.{After-delay-answer}
@@ -15,12 +14,6 @@ stepped c =
     let a = c.args in
     delayed_called a.n a.k a.work.now c.requires (replicate 224 (pos 0)) (blank_memory a.n c.requires.memory.clocks) _ _
     c.delay-answer.ensures
-
-pub overflow_mul-k : goal.overflow_mul-k
-overflow_mul-k c = record { fits = omega (arith, working_small c.requires) }
-
-pub slice_bounds-delay-end : goal.slice_bounds-delay-end
-slice_bounds-delay-end c = working_inside c.requires
 
 pub show-requires : goal.show-requires
 show-requires c =

@@ -1,42 +1,28 @@
-use mathlib.Core.Path.{◌≡◌}
 use Rattle.model.specs.Plain.{bounds_of}
-use Rattle.runs.specs.Rule.{Step, cut_all, delayed, entering, ◌then◌}
+use Rattle.runs.specs.Rule.{delayed, cut_all, entering, ◌then◌}
 use Rattle.steps.specs.Working.{front}
 use Rattle.steps.proofs.Going.{Going, going_next, going_refused, going_last, entering_as}
 use Rattle.steps.proofs.list.entered.Goals as goal
-use Rattle.steps.proofs.list.entered.Goals.{In-Vectors, In-Vectors-later}
+use Rattle.steps.proofs.list.entered.Goals.{In_ok-l}
 
 -- the delay is left, and the invariant again
-first : (c : In-Vectors) → let a = c.args in
-    let inv = bounds_of a.n a.invariant in
-    Going a.n c.in-Vectors.l c.cut_all-first.new.work (λ l. delayed a.n l then cut_all a.n inv)
+first : (c : In_ok-l) → let a = c.args in
+    let inv = bounds_of a.n a.invariant.now in
+    Going a.n c.in_ok-l.l c.cut_all.new.work (λ l. delayed a.n l then cut_all a.n inv)
     (entering a.n inv (front a.n a.k a.work.now))
-first c = going_next c.cut_all-first.ensures c.in-Vectors.is (entering_as _ _ _)
+first c = going_next (entering_as _ _ _) c.in_ok-l.ensures
 
--- the invariant is left
-second : (c : In-Vectors-later) {whole : Step} → let a = c.args in
-    let inv = bounds_of a.n a.invariant in
-    delayed a.n (front a.n c.in-Vectors.l c.cut_all-first.new.work) then cut_all a.n inv ≡ whole
-    → Going a.n c.in-Vectors-later.m c.delayed-later.new.work (cut_all a.n inv) whole
-second c e = going_next c.delayed-later.ensures c.in-Vectors-later.is e
+pub returns-in_err-l : goal.returns-in_err-l
+returns-in_err-l c = going_refused _ (entering_as _ _ _) c.in_err-l.ensures c.from_residual.ensures.1
 
-pub returns-in_default : goal.returns-in_default
-returns-in_default c = going_refused c.cut_all-first.ensures c.in_default.is _ (entering_as _ _ _)
-
-pub delayed-later-requires : goal.delayed-later-requires
-delayed-later-requires c = (first (goal.at.delayed-later-requires c).In-Vectors).working
-
-pub returns-in_default-later : goal.returns-in_default-later
-returns-in_default-later c =
-    let g = first (goal.at.returns-in_default-later c).In-Vectors in
-    going_refused c.delayed-later.ensures c.in_default-later.is _ g.same
-
-pub cut_all-requires : goal.cut_all-requires
-cut_all-requires c =
-    let g = first (goal.at.cut_all-requires c).In-Vectors in
-    ((second (goal.at.cut_all-requires c).In-Vectors-later g.same).working, c.requires.1)
+pub returns-in_err-m : goal.returns-in_err-m
+returns-in_err-m c =
+    let g = first (goal.at.returns-in_err-m c).In_ok-l in
+    going_refused _ g.same c.in_err-m.ensures c.from_residual-in_err-m.ensures.1
 
 pub returns : goal.returns
 returns c =
-    let g = first (goal.at.returns c).In-Vectors in
-    going_last c.cut_all.ensures (second (goal.at.returns c).In-Vectors-later g.same).same
+    let g = first (goal.at.returns c).In_ok-l in
+    let inv = bounds_of c.args.n c.args.invariant.now in
+    going_last (going_next {next = cut_all c.args.n inv} g.same c.in_ok-m.ensures).same
+    c.cut_all-2.ensures

@@ -1,11 +1,9 @@
-use native.Mathlib.Omega.{arith}
 use lib.IntN.{pos}
 use lib.ListN.{replicate}
 use Rattle.runs.specs.Rule.{reset_to0}
 use Rattle.steps.specs.Working.{front, Stepped}
-use Rattle.steps.proofs.FrontLaws.{working_small, working_inside, blank_memory, stepped_moved}
+use Rattle.steps.proofs.FrontLaws.{blank_memory, stepped_moved}
 use Rattle.steps.proofs.Calls.{reset_called, reset_sound, showable}
-use Rattle.steps.proofs.Going.{reset_off, reset_on}
 use Rattle.steps.proofs.list.reset.Goals as goal
 use Rattle.steps.proofs.list.reset.Goals.{After-reset-answer}
 
@@ -18,15 +16,6 @@ stepped c =
     reset_called a.n a.k a.work.now h (replicate 224 (pos 0)) (blank_memory a.n h.memory.clocks) _ _ a.i c.requires.1
     c.reset-answer.ensures
 
-pub returns-then-bit-ne1 : goal.returns-then-bit-ne1
-returns-then-bit-ne1 c = reset_off c.args.n c.args.bit c.args.i c.args.k c.args.work.now c.requires.0 c.if-bit-ne1.true
-
-pub overflow_mul-k : goal.overflow_mul-k
-overflow_mul-k c = record { fits = omega (arith, working_small c.requires.0) }
-
-pub slice_bounds-reset-end : goal.slice_bounds-reset-end
-slice_bounds-reset-end c = working_inside c.requires.0
-
 pub show-requires : goal.show-requires
 show-requires c =
     showable c.args.n c.args.k c.args.work.now c.requires.0 (stepped (goal.at.show-requires c).After-reset-answer)
@@ -34,6 +23,5 @@ show-requires c =
 pub returns : goal.returns
 returns c =
     let a = c.args in
-    reset_on a.n a.bit a.i a.k a.work.now c.if-bit-ne1.false
-    (stepped_moved a.n c.requires.0.memory (reset_sound a.n a.k a.work.now c.requires.0 a.i c.requires.1)
-    (stepped (goal.at.returns c).After-reset-answer) c.show.ensures)
+    stepped_moved a.n c.requires.0.memory (reset_sound a.n a.k a.work.now c.requires.0 a.i c.requires.1)
+    (stepped (goal.at.returns c).After-reset-answer) c.show.ensures

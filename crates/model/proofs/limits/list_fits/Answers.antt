@@ -1,8 +1,0 @@
-use Rattle.codec.proofs.PackedLaws.{place_used, place_unused}
-use Rattle.model.proofs.limits.list_fits.Goals as goal
-
-pub returns-then-i-count : goal.returns-then-i-count
-returns-then-i-count c = place_used c.if-i-count.true c.bounds_fit.ensures
-
-pub returns : goal.returns
-returns c = place_unused c.if-i-count.false c.list_blank.ensures
