@@ -37,8 +37,8 @@ pub record Lines (n : ℕ) (area : List ℤ) (i : ℕ) (text : List ℕ) (at : �
   pub wrote : (stops : List Stop) → Shows n area i stops → Writes text at (each line_of stops) text' end
 
 -- ---- a model that is walked by its outline, and printed
-pub record Ready (s : List ℕ) (o : Outline) (text : List ℕ) : Type 0 where
-  pub outlined : Outlines s o
+pub record Ready (o : Outline) (text : List ℕ) : Type 0 where
+  pub outlined : Outlines o
   pub room : 397 ≤ length text
 
 -- the area is as the walk leaves it, and the text is written

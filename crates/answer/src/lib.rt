@@ -28,13 +28,13 @@ fn lines(area: &[i32], n: usize, i: usize, text: &mut [u8], at: usize) -> usize
 }
 
 // Walks a model and writes its text: the first line, and under REACHED the lines of the path.
-fn print(bytes: &[u8], outline: Outline, area: &mut [i32], text: &mut [u8]) -> usize
-    requires { Ready bytes.now outline text.old }
-    ensures { PrintsModel (model_by bytes.now outline) area.old text.old
+fn print(outline: Outline, area: &mut [i32], text: &mut [u8]) -> usize
+    requires { Ready outline text.old }
+    ensures { PrintsModel (model_by outline.entry) area.old text.old
         area.new text.new result }
 {
     let n = outline.clocks as usize;
-    let answer = walk::walk_outline(bytes, outline, area);
+    let answer = walk::walk_outline(outline, area);
     let at = printing::head(text, answer);
     match answer {
         Ok(Verdict::Reached { kept, .. }) => lines(area, n, kept - 1, text, at),
@@ -50,7 +50,7 @@ pub fn answer(bytes: &[u8], area: &mut [i32], text: &mut [u8; TEXT]) -> usize
         text.new }
 {
     match places::read_outline(bytes) {
-        Ok(outline) => print(bytes, outline, area, text),
+        Ok(outline) => print(outline, area, text),
         Err(e) => printing::head(text, Err(e)),
     }
 }

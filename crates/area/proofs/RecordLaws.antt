@@ -1,7 +1,7 @@
 -- Laws of records: the words of a record, and the state that they stand for.
 use mathlib.Core.Bool.{Bool, true, false, cond}
 use mathlib.Core.List.{List, ◌++◌, append_assoc}
-use mathlib.Core.Path.{◌≡◌, refl, sym, ap, ◌∙◌, subst}
+use mathlib.Core.Path.{◌≡◌, refl, sym, ap, ◌∙◌}
 use Prim.Native.Nat.{ℕ, zero, suc, ◌+◌, ◌-◌, ◌*◌, ◌/◌, ◌≤◌, ◌<◌, min}
 use native.Mathlib.Decide.{dec_lt}
 use native.Mathlib.Nat.{zero-mul, suc-mul, add-zero, mul-le-mul_right}
@@ -23,7 +23,7 @@ use Rattle.sets.proofs.RowLaws.{row_inside}
 use Rattle.runs.specs.Rule.{State}
 use borrow.Author.Tests.{lt-ltb, le-ltb, ltb-true, ltb-false}
 use Rattle.area.specs.Area.{record_size, record_of, room_of}
-use Rattle.area.specs.Records.{record_at, state_of, state_in, state, Stands, Places}
+use Rattle.area.specs.Records.{record_at, state_of, state_in, state, Stands}
 
 -- a whole list fits a record
 pub list_fits_lem : (n : ℕ) (l : List ℤ) → Whole n l → length l ≤ 32 * suc n
@@ -145,25 +145,23 @@ module _ (n i r : ℕ) (area : List ℤ) (q : r ≡ record_size n) (h : Stands n
       → to_z w32 (of_z w32 (get_or area (i * r + 3) (pos 0))) ≡ pos (count n (state_in n area i).list)
   count_read g = back g ∙ (ap (λ (x : ℕ). get_or area (i * x + 3) (pos 0)) q ∙ count_word n area i h)
 
-  -- so many vectors fit the record
-  pub few_read : count n (state_in n area i).list * (n + 1) ≤ 32 * suc n
-  few_read = subst (λ (w : ℕ). count n (state_in n area i).list * w ≤ 32 * suc n) (sym (add-one n)) (few n area i h)
-
-  -- what `locate` answers
-  pub places : (l c : ℕ) → l ≡ (state_in n area i).location → c ≡ count n (state_in n area i).list
-      → Places n area i (record { location = l; from = i * r + 4; to = i * r + 4 + c * (n + 1) })
-  places l c e f =
+  -- the list that `locate` answers
+  pub list_located : (c : ℕ) → c ≡ count n (state_in n area i).list
+      → take ((i * r + 4 + c * (n + 1)) - (i * r + 4)) (drop (i * r + 4) area) ≡ (state_in n area i).list
+  list_located c f =
       let z : (i * r + 4 + c * (n + 1)) - (i * r + 4) ≡ c * (n + 1) = omega arith in
       let g : c * (n + 1) ≡ count n (state_in n area i).list * suc n
       = ap (λ (k : ℕ). k * (n + 1)) f ∙ ap (λ (w : ℕ). count n (state_in n area i).list * w) (add-one n) in
-      record {
-        location = e;
-        low = omega arith;
-        high = omega (arith, read_room, few n area i h, g);
-        list = ap (λ (x : ℕ). take x (drop (i * r + 4) area)) (z ∙ g)
-            ∙ (ap (λ (x : ℕ). take (count n (state_in n area i).list * suc n) (drop (i * x + 4) area)) q
-            ∙ list_part n area i h);
-      }
+      ap (λ (x : ℕ). take x (drop (i * r + 4) area)) (z ∙ g)
+      ∙ (ap (λ (x : ℕ). take (count n (state_in n area i).list * suc n) (drop (i * x + 4) area)) q
+      ∙ list_part n area i h)
+
+  -- the list ends in the area
+  pub list_ends : (c : ℕ) → c ≡ count n (state_in n area i).list → i * r + 4 + c * (n + 1) ≤ length area
+  list_ends c f =
+      let g : c * (n + 1) ≡ count n (state_in n area i).list * suc n
+      = ap (λ (k : ℕ). k * (n + 1)) f ∙ ap (λ (w : ℕ). count n (state_in n area i).list * w) (add-one n) in
+      omega (arith, read_room, few n area i h, g)
 
 -- ---- the room
 cap_by : (b : Bool) (a : ℕ) → ltb a 64 ≡ b → cond b a 64 ≤ 64

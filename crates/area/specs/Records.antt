@@ -5,7 +5,7 @@ use Rattle.sorting.specs.Rows.{put}
 use Rattle.runs.specs.Rule.{State, included}
 use Rattle.runs.proofs.ProperLists.{Proper}
 use Rattle.area.specs.Area.{record_size, record_of}
-use Rattle.area.specs.declared.Place.{Place}
+use Rattle.area.specs.declared.Located.{Located}
 
 -- ---- written
 -- a record of so many words: four numbers, the list, and 0 behind it
@@ -66,9 +66,7 @@ Recorded n k area = (i : ℕ) → i < k → Stands n area i
 abbrev pub covers_by : ℕ → ℕ → List ℤ → State → Bool
 covers_by n q list s = eqb s.location q && included n list s.list
 
--- where the state of record i stands: its location, and from where to where its list goes
-pub record Places (n : ℕ) (area : List ℤ) (i : ℕ) (p : Place) : Type 0 where
-  pub location : p.location ≡ (state_in n area i).location
-  pub low : p.from ≤ p.to
-  pub high : p.to ≤ length area
-  pub list : take (p.to - p.from) (drop p.from area) ≡ (state_in n area i).list
+-- the location and the list of the state in record i
+pub record Locates (n : ℕ) (area : List ℤ) (i : ℕ) (s : Located) : Type 0 where
+  pub location : s.location ≡ (state_in n area i).location
+  pub list : s.list.now ≡ (state_in n area i).list

@@ -4,15 +4,14 @@
 ghost use Rattle.std.specs.Prelude.{◌≡◌, ◌+◌, ◌≤◌, pos, length, replicate};
 ghost use Rattle.runs.specs.Rule.{covered as coveredBy};
 ghost use Rattle.area.specs.Area.{record_size, room_of};
-ghost use Rattle.area.specs.Records.{written, kept, state, Keepable, Stands, Recorded, Places};
+ghost use Rattle.area.specs.Records.{written, kept, state, Keepable, Stands, Recorded, Locates};
 ghost use Rattle.area.specs.Records.{state_in, states_in, covers_by};
 
-// Where a kept state stands: its location, and from where to where its list goes.
+// A kept state where it stands: its location and its list.
 #[derive(Clone, Copy, Debug, PartialEq, Eq)]
-pub struct Place {
+pub struct Located<'a> {
     pub location: u32,
-    pub from: usize,
-    pub to: usize,
+    pub list: &'a [i32],
 }
 
 // How many words a record has.
@@ -77,18 +76,18 @@ pub fn keep(
 }
 
 // Finds where the state of record i stands.
-pub fn locate(area: &[i32], n: usize, i: usize) -> Place
+pub fn locate(area: &[i32], n: usize, i: usize) -> Located<'_>
     requires { (n ≤ 6) × Stands n area.now i }
-    ensures { Places n area.now i result }
+    ensures { Locates n area.now i result }
 {
     let at = i * size(n);
     let location = area[at] as u32;
     let vectors = area[at + 3] as usize;
     let from = at + 4;
-    Place {
+    let to = from + vectors * (n + 1);
+    Located {
         location,
-        from,
-        to: from + vectors * (n + 1),
+        list: &area[from..to],
     }
 }
 
@@ -97,8 +96,8 @@ fn covers(area: &[i32], n: usize, i: usize, q: u32, list: &[i32]) -> bool
     requires { (n ≤ 6) × Stands n area.now i }
     ensures { result ≡ covers_by n q list.now (state_in n area.now i) }
 {
-    let place = locate(area, n, i);
-    place.location == q && sets::included(n, list, &area[place.from..place.to]).unwrap_or(false)
+    let state = locate(area, n, i);
+    state.location == q && sets::included(n, list, state.list).unwrap_or(false)
 }
 
 // Whether one of the first k states is in location q and includes the list.

@@ -37,7 +37,7 @@ pub struct Bound {
     pub kind: Kind,
 }
 
-// A list of bounds. What is behind the first `count` is unused.
+// A list of bounds. What is behind the first `count` is unused, and may be what a model is refused for.
 #[derive(Clone, Copy, Debug, PartialEq, Eq)]
 pub struct Bounds {
     pub count: u32,

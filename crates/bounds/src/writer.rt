@@ -1,4 +1,5 @@
-// Bounds in their limits, written as bytes.
+// Bounds in their limits, written as bytes. Each list has a loop of its own: a closure would need room that its caller
+// shows.
 ghost use Rattle.std.specs.Prelude.{◌≡◌, ◌≤◌, take};
 ghost use Rattle.numbers.specs.Words.{number};
 ghost use Rattle.codec.specs.Arrays.{each, All};

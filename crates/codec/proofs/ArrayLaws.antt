@@ -1,12 +1,10 @@
 -- Reading into an array, item by item.
-use mathlib.Core.List.{List, [], ◌∷◌, ◌++◌, append_assoc, append-nil}
-use mathlib.Core.Path.{◌≡◌, refl, sym, ap, ◌∙◌}
-use Prim.Native.Nat.{ℕ, zero, suc, ◌+◌, ◌-◌, ◌≤◌, ◌<◌}
-use native.Mathlib.Nat.{sub-zero}
-use native.Mathlib.Numerals.{add-one}
+use mathlib.Core.List.{List, [], ◌∷◌, ◌++◌}
+use mathlib.Core.Path.{◌≡◌, sym, ap, ◌∙◌}
+use Prim.Native.Nat.{ℕ, zero, suc, ◌-◌, ◌≤◌}
 use native.Mathlib.Omega.{arith}
-use lib.ListN.{length, set, take, drop, replicate, length-set, length-replicate}
-use lib.Seq.{take-suc-set, length-take-le, take-length}
+use lib.ListN.{length, take, drop, replicate, length-replicate}
+use lib.Seq.{length-take-le}
 use Rattle.codec.specs.Number.{Got, got, refused}
 use Rattle.codec.specs.Form.{Form, done, read_in, many, padded, array}
 use Rattle.std.proofs.lemmas.List.{drop-replicate}
@@ -18,76 +16,15 @@ abbrev pub behind : {A : Type 0} → List A → Got (List A) → Got (List A)
 behind xs g = onto (λ ys t. got (xs ++ ys) t) g
 
 module _ {A : Type 0} where
-  behind_none : (g : Got (List A)) → behind [] g ≡ g
-  behind_none (got ys t) = refl
-  behind_none (refused e) = refl
-
-  behind_more : (xs : List A) (a : A) (g : Got (List A)) → behind xs (behind (a ∷ []) g) ≡ behind (xs ++ (a ∷ [])) g
-  behind_more xs a (got ys t) = ap (λ (l : List A). got l t) (sym (append_assoc xs (a ∷ []) ys))
-  behind_more xs a (refused e) = refl
-
-  many_next : (F : Form A) (l : ℕ) (s : List ℕ) {t : List ℕ} {a : A} → got a t ≡ read_in F s
+  pub many_next : (F : Form A) (l : ℕ) (s : List ℕ) {t : List ℕ} {a : A} → got a t ≡ read_in F s
       → read_in (many (suc l) F) s ≡ behind (a ∷ []) (read_in (many l F) t)
   unfolding many read_in
   many_next F l s {t} {a} e = first_gave F _ s e ∙ read_then (many l F) (λ rest. done (a ∷ rest)) t
 
-  many_stop : (F : Form A) (l : ℕ) (s : List ℕ) {e : ℕ} → refused e ≡ read_in F s
+  pub many_stop : (F : Form A) (l : ℕ) (s : List ℕ) {e : ℕ} → refused e ≡ read_in F s
       → read_in (many (suc l) F) s ≡ refused e
   unfolding many
   many_stop F l s e = first_refused F _ s e
-
--- the first i items of a list are read into it, and `rest` is left to read
-pub record Passing {A : Type 0} (F : Form A) (start : List ℕ) (count : ℕ) (xs : List A) (i : ℕ) (rest : List ℕ) : Type 0
-  where
-    pub within : i ≤ count
-    pub long : length xs ≡ count
-    pub same : read_in (many count F) start ≡ behind (take i xs) (read_in (many (count - i) F) rest)
-
-module _ {A : Type 0} {F : Form A} {start : List ℕ} {count : ℕ} where
-  -- before the first item
-  pub pass_start : {xs : List A} → length xs ≡ count → Passing F start count xs 0 start
-  pass_start e =
-      record {
-        within = omega arith;
-        long = e;
-        same = rw sub-zero (sym (behind_none (read_in (many count F) start)));
-      }
-
-  module _ {xs : List A} {i : ℕ} {rest : List ℕ} (w : Passing F start count xs i rest) where
-    -- one item more
-    pub pass_step : {a : A} {t : List ℕ} → i < count → got a t ≡ read_in F rest
-        → Passing F start count (set xs i a) (i + 1) t
-    pass_step {a} {t} l f =
-        let left : count - i ≡ suc (count - (i + 1)) = omega arith in
-        let passed : take (i + 1) (set xs i a) ≡ take i xs ++ (a ∷ []) =
-        rw add-one (take-suc-set xs i a (omega (arith, w.long))) in
-        let read : read_in (many (count - i) F) rest ≡ behind (a ∷ []) (read_in (many (count - (i + 1)) F) t) =
-        rw left (many_next F (count - (i + 1)) rest f) in
-        record {
-          within = omega arith;
-          long = length-set xs i a ∙ w.long;
-          same =
-              w.same ∙ ap (behind (take i xs)) read ∙ behind_more (take i xs) a (read_in (many (count - (i + 1)) F) t)
-              ∙ ap (λ (ys : List A). behind ys (read_in (many (count - (i + 1)) F) t)) (sym passed);
-        }
-
-    -- an item is refused
-    pub pass_stop : {e : ℕ} → i < count → refused e ≡ read_in F rest → refused e ≡ read_in (many count F) start
-    pass_stop {e} l f =
-        let left : count - i ≡ suc (count - (i + 1)) = omega arith in
-        let none : read_in (many (count - i) F) rest ≡ refused e = rw left (many_stop F (count - (i + 1)) rest f) in
-        sym (w.same ∙ ap (behind (take i xs)) none)
-
-    -- after the last item
-    pub pass_done : count ≤ i → got xs rest ≡ read_in (many count F) start
-    unfolding many read_in
-    pass_done l =
-        let none : count - i ≡ 0 = omega arith in
-        let whole : i ≡ length xs = omega (arith, w.long, w.within) in
-        let all : read_in (many count F) start ≡ got (take i xs ++ []) rest = w.same ∙ rw none refl in
-        let first : take i xs ++ [] ≡ xs =
-        append-nil (take i xs) ∙ ap (λ (k : ℕ). take k xs) whole ∙ take-length xs in
-        sym (all ∙ ap (λ (ys : List A). got ys rest) first)
 
 -- as many items are read as are asked for
 pub many_long : {A : Type 0} (F : Form A) (n : ℕ) (s : List ℕ) {xs : List A} {t : List ℕ}

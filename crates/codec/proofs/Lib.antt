@@ -2,12 +2,12 @@ pub mod FoldLaws
 pub mod NumberBytes
 pub mod FormLaws
 pub mod ArrayLaws
+pub mod EachLaws
 pub mod AlikeForms
 pub mod PackedLaws
 pub mod WriteLaws
 pub mod NumberTrip
 pub mod FormTrip
 pub mod FormSize
-pub mod FormEnds
 pub mod Settled
 pub mod RefusalNumbers

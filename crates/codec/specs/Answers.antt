@@ -1,5 +1,5 @@
 -- What the codec's answers say, as the rules' numbers and values.
-use Rattle.std.specs.Prelude.{List, ◌≡◌, ℕ, ◌+◌, ◌-◌, ◌≤◌, length, drop, Result, Ok, Err}
+use Rattle.std.specs.Prelude.{List, [], ◌∷◌, ◌≡◌, ℕ, ◌+◌, ◌≤◌, length, Result, Ok, Err}
 use Rattle.std.specs.Borrow.{Bor}
 use Rattle.numbers.specs.Refusals.{refusal_number}
 use Rattle.numbers.specs.declared.Refusal.{Refusal}
@@ -32,9 +32,26 @@ items_said xs (Err e) = refused (refusal_number e)
 abbrev pub ReadsItems : {A : Type 0} → Form A → ℕ → List ℕ → List A → Result (Bor (List ℕ)) Refusal → Type 0
 ReadsItems F n s after r = items_said after r ≡ read_in (many n F) s
 
--- the bytes t stand at the end of s
-pub record Ends (s t : List ℕ) : Type 0 where
-  pub is : drop (length s - length t) s ≡ t
+-- what stands behind items that were read, or the refusal
+abbrev pub left_said : Result (Bor (List ℕ)) Refusal → Result (List ℕ) Refusal
+left_said (Ok rest) = Ok rest.now
+left_said (Err e) = Err e
+
+-- items that a reader gives one behind the other from s on: all of them, or those before the one that it refuses
+pub data Each {T : Type 0} (post : Bor (List ℕ) → Reading T → Type 0) :
+    List ℕ → List T → Result (List ℕ) Refusal → Type 0 where
+  none : {s : List ℕ} → Each post s [] (Ok s)
+  next : {s t : Bor (List ℕ)} {x : T} {xs : List T} {r : Result (List ℕ) Refusal} → post s (Ok (x, t))
+      → Each post t.now xs r → Each post s.now (x ∷ xs) r
+  stop : {s : Bor (List ℕ)} {x : T} {xs : List T} {e : Refusal} → post s (Err e) → Each post s.now (x ∷ xs) (Err e)
+
+-- the same of what the value stands for
+abbrev pub said_as : {T A : Type 0} → (T → A) → Reading T → Got A
+said_as f (Ok r) = got (f r.0) r.1.now
+said_as f (Err e) = refused (refusal_number e)
+
+abbrev pub ReadsAs : {T A : Type 0} → (T → A) → Form A → List ℕ → Reading T → Type 0
+ReadsAs f F s r = said_as f r ≡ read_in F s
 
 -- bytes stored from `at` on, and where they end
 pub record Writes (before : List ℕ) (at : ℕ) (bytes : List ℕ) (after : List ℕ) (end : ℕ) : Type 0 where

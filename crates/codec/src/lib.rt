@@ -4,7 +4,7 @@
 ghost use Rattle.std.specs.Prelude.{◌≡◌, ◌≤◌, length, nat_abs};
 ghost use Rattle.codec.specs.Number.{number_in, folded, unfolded};
 ghost use Rattle.codec.specs.Form.{Form, done, ask};
-ghost use Rattle.codec.specs.Answers.{reading_said, Reads, ReadsBy, ReadsItems};
+ghost use Rattle.codec.specs.Answers.{reading_said, Reads, ReadsBy, ReadsItems, Each, left_said};
 
 use numbers::Refusal;
 
@@ -54,7 +54,8 @@ pub fn read_items<'a, T: Copy, F: Fn(&'a [u8]) -> Reading<'a, T>>(
     read: F,
 ) -> Result<&'a [u8], Refusal>
     requires { F.IsAlwaysCallable read }
-    ensures { (form : Form T) → ReadsBy form (F.post read) → ReadsItems form (length items.old) s.now items.new result }
+    ensures each { Each (F.post read) s.now items.new (left_said result) }
+    ensures read { (form : Form T) → ReadsBy form (F.post read) → ReadsItems form (length items.old) s.now items.new result }
 {
     let mut rest = s;
     for item in items.iter_mut() {

@@ -47,6 +47,7 @@ fn read<R: Read>(input: &mut R, buffer: &mut [u8]) -> io::Result<usize>
     ensures begins { IfOk result (λ n. IfSome (R.remaining input.old) (Begins buffer.new n)) }
 {
     let mut at = 0;
+    // a reading takes as many bytes as come, so no range counts them
     while at < buffer.len() {
         let more = read_some(input, &mut buffer[at..])?;
         if more == 0 {

@@ -1,4 +1,5 @@
-// The vectors that stand before cleaning, for each call.
+// The vectors that stand before cleaning, for each call. The three loops are short, and what a closure makes would need
+// a definition to name it.
 ghost use Rattle.std.specs.Prelude.{map};
 ghost use Rattle.numbers.specs.Words.{number};
 ghost use Rattle.algebra.specs.Vectors.{vectors};

@@ -29,7 +29,7 @@ pub fn finish(area: &mut [i32], work: &Work, n: usize) -> Result<usize, Refusal>
     if !entries::has_point(n, &work.words[..work.count * (n + 1)]) {
         return Ok(0);
     }
-    let mut flags = [true; 272];
+    let mut flags = [true; 272]; // beside the vectors, since the test of a vector takes any flags
     let alive = &mut flags[..work.count];
     clean(alive, &work.words, n);
     if !range::fits(&work.words, n, alive) {

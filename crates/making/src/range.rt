@@ -33,6 +33,7 @@ pub fn fits(work: &[i32], n: usize, alive: &[bool]) -> bool
     requires { (n ≤ 6) × (length alive.now * suc n ≤ length work.now) }
     ensures { result ≡ alive_ok n alive.now (flat (suc n) work.now) }
 {
+    // with `all` the search does not see that each row may be looked at
     for (on, vector) in alive.iter().zip(work.chunks_exact(n + 1)) {
         if *on && !row_fits(vector, n) {
             return false;

@@ -31,7 +31,7 @@ use Rattle.model.specs.Answers.{
   short,
   wrote,
 }
-use Rattle.model.specs.Outlines.{model_by, ReadsOutline}
+use Rattle.model.specs.Outlines.{model_by, past_standing, ReadsOutline}
 use Rattle.model.proofs.WholeTrip.{model_there, model_back}
 use Rattle.model.proofs.ModelSize as sizes
 
@@ -87,21 +87,22 @@ read_settled s (Ok m) (Err f) v w = absurd (apart (v.said ∙ sym w.said))
 read_settled s (Err e) (Ok n) v w = absurd (apart (w.said ∙ sym v.said))
 
 -- two outlines of the same bytes: the places may differ, and what stands there is the same
-pub record SameOutline (s : List ℕ) (o u : Outline) : Type 0 where
-  pub model : model_by s o ≡ model_by s u
-  pub sources : (e : ℕ) → e < o.edges → get_or o.sources e 0 ≡ get_or u.sources e 0
+pub record SameOutline (o u : Outline) : Type 0 where
+  pub model : model_by o ≡ model_by u
+  pub sources : (e : ℕ) → e < o.edges
+      → (get_or o.steps e past_standing).source ≡ (get_or u.steps e past_standing).source
 
 -- two answers of `read_outline`: the same refusal, or outlines with the same model
-abbrev pub SameOutlined : List ℕ → Result Outline Refusal → Result Outline Refusal → Type 0
-SameOutlined s (Ok o) (Ok u) = SameOutline s o u
-SameOutlined s (Err e) (Err f) = e ≡ f
-SameOutlined s (Ok o) (Err f) = ⊥
-SameOutlined s (Err e) (Ok u) = ⊥
+abbrev pub SameOutlined : Result Outline Refusal → Result Outline Refusal → Type 0
+SameOutlined (Ok o) (Ok u) = SameOutline o u
+SameOutlined (Err e) (Err f) = e ≡ f
+SameOutlined (Ok o) (Err f) = ⊥
+SameOutlined (Err e) (Ok u) = ⊥
 
 pub outline_settled : (s : List ℕ) (p q : Result Outline Refusal) → ReadsOutline s p → ReadsOutline s q
-    → SameOutlined s p q
+    → SameOutlined p q
 outline_settled s (Ok o) (Ok u) v w =
-    let same : model_by s o ≡ model_by s u = same_value (v.said ∙ sym w.said) in
+    let same : model_by o ≡ model_by u = same_value (v.said ∙ sym w.said) in
     record {
       model = same;
       sources = λ e h.

@@ -22,7 +22,8 @@ pub struct Edge {
     pub resets: u32,
 }
 
-// A model. What is behind the first `locations` invariants and the first `edges` steps is unused.
+// A model. What is behind the first `locations` invariants and the first `edges` steps is unused, and may be what it is
+// refused for.
 #[derive(Clone, Copy, Debug, PartialEq, Eq)]
 pub struct Model {
     pub clocks: u32,
@@ -36,18 +37,24 @@ pub struct Model {
     pub depth: u32,
 }
 
-// What a walk needs of a model's bytes: its numbers, each edge's source, and where its lists and edges stand.
+// An edge's source, and the bytes that it is read from.
 #[derive(Clone, Copy)]
-pub struct Outline {
+pub struct Standing<'a> {
+    pub source: u32,
+    pub bytes: &'a [u8],
+}
+
+// What a walk needs of a model's bytes: its numbers, and the bytes from which its lists and edges are read.
+#[derive(Clone, Copy)]
+pub struct Outline<'a> {
     pub clocks: u32,
     pub locations: u32,
     pub edges: u32,
     pub initial: u32,
-    pub invariants: [usize; 32],
-    pub steps: [usize; 64],
-    pub sources: [u32; 64],
+    pub invariants: [&'a [u8]; 32],
+    pub steps: [Standing<'a>; 64],
     pub target: u32,
-    pub list: usize,
+    pub list: &'a [u8],
     pub depth: u32,
 }
 

@@ -1,4 +1,5 @@
-// The two questions asked of a set: is a point in it, and is it included in another.
+// The two questions asked of a set: is a point in it, and is it included in another. Clocks and list come apart here and
+// in what rests on this, as the calls take any of both; n ≤ 6 stands in clauses, since n is used as a number.
 #![tactic(auto)]
 
 ghost use Rattle.sets.specs.Calls.{Contains, IsIncluded};

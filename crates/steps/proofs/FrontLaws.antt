@@ -2,7 +2,7 @@
 use Rattle.std.proofs.Common.{Ok}
 use mathlib.Core.List.{List, ◌++◌}
 use mathlib.Core.Path.{◌≡◌, refl, sym, ◌∙◌, ap, subst}
-use Prim.Native.Nat.{ℕ, suc, ◌+◌, ◌*◌, ◌≤◌}
+use Prim.Native.Nat.{ℕ, suc, ◌+◌, ◌*◌, ◌≤◌, ◌/◌}
 use native.Mathlib.Nat.{mul-le-mul, zero-lt-suc, div-eq_of_eq-mul_left}
 use native.Mathlib.Numerals.{add-one}
 use native.Mathlib.Omega.{arith}
@@ -16,6 +16,7 @@ use Rattle.making.specs.Rules.{Result}
 use Rattle.runs.specs.Rule.{Step, made, stop}
 use Rattle.runs.specs.Shown.{Shows, shown}
 use Rattle.runs.proofs.ProperLists.{Proper}
+use Rattle.steps.specs.Steps.{Listed}
 use Rattle.steps.specs.Working.{front, step_by, Memory, Kept, Working, Begun, Stepped}
 
 -- ---- how many words
@@ -73,6 +74,19 @@ laid_front n v d whole = take_at v (drop (length v) d) (count n v * suc n) whole
 laid_kept : (n : ℕ) (v d : List ℤ) → Proper n v → Kept n (count n v) (v ++ drop (length v) d)
 laid_kept n v d p =
     record { few = p.whole.few; proper = subst (Proper n) (sym (laid_front n v d p.whole)) p }
+
+-- the list that is begun with
+pub begun : (n : ℕ) (list work : List ℤ) → Memory n work → Listed n list
+    → Begun n list (length list / (n + 1)) (list ++ drop (length list) work)
+begun n list work memory listed =
+    let many : length list / (n + 1) ≡ count n list = ap (λ (w : ℕ). length list / w) (add-one n) in
+    rw many (record {
+      working = record {
+        memory = laid_memory n list work memory listed.proper.whole;
+        kept = laid_kept n list work listed.proper;
+      };
+      stands = laid_front n list work listed.proper.whole;
+    })
 
 -- ---- what a call shows
 -- an answer and an area, each settled

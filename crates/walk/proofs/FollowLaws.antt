@@ -14,7 +14,7 @@ use Rattle.model.specs.declared.Outline.{Outline}
 use Rattle.model.specs.Limits.{EdgeLimits}
 use Rattle.model.specs.Models.{past_bounds, past_edge}
 use Rattle.model.specs.Plain.{plain, bounds_of, edge_of}
-use Rattle.model.specs.Outlines.{list_at, edge_at, model_by, Outlines}
+use Rattle.model.specs.Outlines.{list_at, edge_at, model_by, past_place, past_standing, Outlines}
 use Rattle.model.proofs.PlainLimits.{edge_at_lem, edge_fits_lem, invariant_at, invariant_fits}
 use Rattle.model.proofs.PlaceLaws.{list_stands, edge_stands}
 use Rattle.area.specs.Records.{state_in, state}
@@ -25,17 +25,18 @@ use Rattle.walk.specs.Control.{Does, tally, walk_in, aimed, formed_to}
 use Rattle.walk.proofs.KeepingLaws.{does_as}
 use Rattle.walk.proofs.FormLaws.{root_does, try_leaves}
 
-module _ (s : List ℕ) (o : Outline) (h : Outlines s o) where
+module _ (o : Outline) (h : Outlines o) where
   abbrev m : Model
-  m = model_by s o
+  m = model_by o
 
   abbrev n : ℕ
   n = o.clocks
 
   -- the invariant that is read for location q
-  module _ (q : ℕ) (l : q < o.locations) {inv : Bounds} (is : inv ≡ list_at n s (get_or o.invariants q 0)) where
+  module _ (q : ℕ) (l : q < o.locations) {inv : Bounds}
+      (is : inv ≡ list_at n (get_or o.invariants q past_place).now) where
     pub known : inv ≡ get_or m.invariants q past_bounds
-    known = is ∙ list_stands s o h q l
+    known = is ∙ list_stands o h q l
 
     pub invariant_limits : BoundsLimits n inv
     invariant_limits = subst (BoundsLimits n) (sym known) (invariant_fits m h.limits past_bounds q l)
@@ -45,7 +46,7 @@ module _ (s : List ℕ) (o : Outline) (h : Outlines s o) where
 
   -- by what its states are kept
   abbrev goal : Goal
-  goal = record { location = o.target; list = list_at n s o.list }
+  goal = record { location = o.target; list = list_at n o.list.now }
 
   -- state 0 is kept
   pub root_did : (room : ℕ) (area l : List ℤ) {k t : ℕ} {before after : List ℤ} {r : Answered} (parent edge : ℤ)
@@ -56,17 +57,18 @@ module _ (s : List ℕ) (o : Outline) (h : Outlines s o) where
   root_did room area l parent edge p q d = root_does m room area l parent edge p q d
 
   -- edge e
-  module _ (e : ℕ) (l : e < o.edges) {E : Edge} (is : E ≡ edge_at n o.locations s (get_or o.steps e 0)) where
+  module _ (e : ℕ) (l : e < o.edges) {E : Edge}
+      (is : E ≡ edge_at n o.locations (get_or o.steps e past_standing).bytes.now) where
     edge_known : E ≡ get_or m.steps e past_edge
-    edge_known = is ∙ edge_stands s o h e l
+    edge_known = is ∙ edge_stands o h e l
 
     pub edge_limits : EdgeLimits n o.locations E
     edge_limits = subst (EdgeLimits n o.locations) (sym edge_known) (edge_fits_lem m h.limits past_edge e l)
 
     -- its candidate is the rule's
     pub followed : (room i : ℕ) (y : Tally) (area : List ℤ) {k t : ℕ} {before after : List ℤ} {r : Answered}
-        (inv : Bounds) → i < y.kept → get_or o.sources e 0 ≡ (state_in n area i).location
-        → inv ≡ list_at n s (get_or o.invariants E.destination 0)
+        (inv : Bounds) → i < y.kept → (get_or o.steps e past_standing).source ≡ (state_in n area i).location
+        → inv ≡ list_at n (get_or o.invariants E.destination past_place).now
         → Does n room k t (formed_to (aimed n goal) room E.destination i e (walk_in n (tally y.kept (y.tried + 1)) area)
         (following n (edge_of n E) (bounds_of n inv) (state_in n area i).list)) before r after
         → Does n room k t (try_edge (plain m).system room i e (walk_in n y area)) before r after

@@ -28,8 +28,8 @@ use Rattle.model.specs.Plain.{plain, bounds_of, edge_of}
 use Rattle.bounds.specs.declared.Bounds.{Bounds}
 use Rattle.model.specs.declared.Edge.{Edge as EdgeRecord}
 use Rattle.model.specs.declared.Model.{Model}
-use Rattle.area.specs.declared.Place.{Place}
-use Rattle.area.specs.Records.{Stands, Places, state_in, states_in, state}
+use Rattle.area.specs.declared.Located.{Located}
+use Rattle.area.specs.Records.{Stands, Locates, state_in, states_in, state}
 use Rattle.area.proofs.KeepLaws.{states_at}
 use Rattle.walk.specs.declared.Tally.{Tally}
 use Rattle.walk.specs.declared.Goal.{Goal}
@@ -90,10 +90,10 @@ prefix_in {n} {o} {k} {after} h g =
     omega (arith, a)
 
 -- ---- the candidate of a state that stands in the area
-module _ (n i : ℕ) (area : List ℤ) (p : Place) (at : Places n area i p) (h : Stands n area i) (edge : EdgeRecord)
+module _ (n i : ℕ) (area : List ℤ) (p : Located) (at : Locates n area i p) (h : Stands n area i) (edge : EdgeRecord)
     (inv : Bounds) where
   abbrev part : List ℤ
-  part = take (p.to - p.from) (drop p.from area)
+  part = p.list.now
 
   abbrev step : List ℤ → Step
   step l = following n (edge_of n edge) (bounds_of n inv) l

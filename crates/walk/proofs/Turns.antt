@@ -1,6 +1,7 @@
 -- Loops of the walk: what is left of the rule from here on is the whole.
 use Rattle.std.proofs.Common.{Err, Ok}
 use mathlib.Core.List.{List}
+use mathlib.Core.Logic.{◌⊎◌, inl, inr}
 use mathlib.Core.Path.{◌≡◌, refl, sym, ap, ◌∙◌, subst}
 use Prim.Native.Nat.{ℕ, suc, ◌+◌, ◌-◌, ◌*◌, ◌≤◌, ◌<◌}
 use native.Mathlib.Nat.{mul-le-mul_right}
@@ -145,3 +146,13 @@ module _ {n room k t t' : ℕ} {f : ℕ → Walk → Outcome} {m i : ℕ} {whole
       → Does n room k t' whole first r after
   turns_refused {e} {r} h d up =
       let p = err_from_is_err_and r up in rw (p.1, p.2) (record { is = next_is g h d.is; grows = tt })
+
+-- what an answer that does not go on is not
+pub not_going : (r : Answered) → ((y : Tally) × (r ≡ Ok (Met y))) ⊎ ((e : Refusal) × (r ≡ Err e)) → (z : Tally)
+    → ¬ (r ≡ Ok (Going z))
+not_going r (inl p) z q =
+    let h : ◌≡◌ {A = Answered} (Ok (Met p.0)) (Ok (Going z)) = sym p.1 ∙ q in
+    let c : ◌≡◌ {A = ℕ} 0 1 = cc in omega arith
+not_going r (inr p) z q =
+    let h : ◌≡◌ {A = Answered} (Err p.0) (Ok (Going z)) = sym p.1 ∙ q in
+    let c : ◌≡◌ {A = ℕ} 0 1 = cc in omega arith

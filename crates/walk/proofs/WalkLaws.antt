@@ -17,6 +17,7 @@ use Rattle.runs.specs.Rule.{Ending, ends_reached, ends_never, ends_open, ends_re
 use Rattle.runs.specs.Rule.{last_path, kept_by, walk_of, answer_of}
 use Rattle.runs.specs.Verdicts.{answer_by, SaysReached, Means}
 use Rattle.runs.specs.Verdicts.{Judged}
+use Rattle.runs.specs.declared.Verdict.{Verdict}
 use Rattle.runs.proofs.Stable.{Final}
 use Rattle.runs.proofs.Settled.{verdict_settled}
 use Rattle.runs.proofs.Counts.{EndsOrderly, walk_orderly}
@@ -56,6 +57,12 @@ walks_read s m before v after e w = record {
   means = λ k q. subst (λ (k : Model). Means (plain k).system (path_in k.clocks after (kept_said (answer_by v)))
       (answer_by v)) (value_inj (sym e ∙ q)) w.means;
 }
+
+-- a verdict that is no refusal
+pub not_refused : (w : Judged) (v : Verdict) → w ≡ Ok v → (e : Refusal) → ¬ (w ≡ Err e)
+not_refused w v p e q =
+    let h : ◌≡◌ {A = Judged} (Ok v) (Err e) = sym p ∙ q in
+    let c : ◌≡◌ {A = ℕ} 0 1 = cc in omega arith
 
 -- ---- what the model's walk says
 module _ (m : Model) (limits : ModelLimits m) where

@@ -13,7 +13,7 @@ use Rattle.walk.specs.Control.{Ready, walk_in}
 
 -- the system of the model
 abbrev pub system_of : Ground → System
-system_of g = (plain (model_by g.bytes.now g.outline.now)).system
+system_of g = (plain (model_by g.outline.now)).system
 
 -- how far the walk is
 abbrev pub walk_on : Ground → Tally → List ℤ → Walk
@@ -26,7 +26,7 @@ keeper_of g =
       n = g.outline.now.clocks;
       goal = record {
         location = g.outline.now.target;
-        list = list_at g.outline.now.clocks g.bytes.now g.outline.now.list;
+        list = list_at g.outline.now.clocks g.outline.now.list.now;
       };
       room = g.room;
     }
@@ -35,7 +35,7 @@ keeper_of g =
 abbrev pub state_by : Candidate → State
 state_by s = state s.location s.parent s.edge s.list.now
 
--- the outline is that of the bytes, and the area is ready
+-- the outline is that of a model in limits, and the area is ready
 pub record Grounded (g : Ground) (y : Tally) (area : List ℤ) : Type 0 where
-  pub outlines : Outlines g.bytes.now g.outline.now
+  pub outlines : Outlines g.outline.now
   pub ready : Ready g.outline.now.clocks g.room y area

@@ -1,7 +1,7 @@
 // The candidates of a state, the states of a layer, layer after layer.
 ghost use Rattle.std.specs.Prelude.{◌≡◌, ◌+◌, ◌*◌, ◌≤◌, ◌<◌, get_or};
 ghost use Rattle.bounds.specs.Limits.{BoundsLimits};
-ghost use Rattle.model.specs.Outlines.{model_by};
+ghost use Rattle.model.specs.Outlines.{model_by, past_standing};
 ghost use Rattle.model.specs.Plain.{plain, bounds_of, edge_of};
 ghost use Rattle.runs.specs.Rule.{expand as expandBy, layer as layerBy, layers as layersBy, keep as keepBy};
 ghost use Rattle.runs.specs.Rule.{following, try_edge, nothing, zeroth, begun, walk_of};
@@ -18,11 +18,10 @@ use model::{Edge, Outline, places};
 use numbers::Refusal;
 use runs::Verdict;
 
-// What a walk goes over: a model's bytes, their outline, and the room for states.
+// What a walk goes over: the outline of a model's bytes, and the room for states.
 #[derive(Clone, Copy)]
 pub struct Ground<'a> {
-    pub bytes: &'a [u8],
-    pub outline: &'a Outline,
+    pub outline: &'a Outline<'a>,
     pub room: usize,
 }
 
@@ -49,8 +48,8 @@ fn form(
 {
     let n = keeper.n;
     let mut out = [0; 224];
-    let place = area::locate(area, n, i);
-    let k = steps::candidate(n, edge, invariant, &area[place.from..place.to], &mut out)?;
+    let state = area::locate(area, n, i);
+    let k = steps::candidate(n, edge, invariant, state.list, &mut out)?;
     let words = k * (n + 1);
     let candidate = Candidate {
         location: edge.destination,
@@ -70,7 +69,7 @@ impl Ground<'_> {
         let outline = self.outline;
         let goal = Goal {
             location: outline.target,
-            list: places::list_at(self.bytes, outline.list, outline.clocks),
+            list: places::list_at(outline.list, outline.clocks),
         };
         Keeper {
             n: outline.clocks as usize,
@@ -83,20 +82,16 @@ impl Ground<'_> {
     fn follow(&self, area: &mut [i32], y: Tally, i: usize, e: usize) -> Result<Moved, Refusal>
         requires grounded { Grounded self.now y area.old × (i < y.kept) × (y.tried < 4096) }
         requires e_lt_edges { (e < self.now.outline.now.edges)
-            × (get_or self.now.outline.now.sources e 0 ≡ (state_in self.now.outline.now.clocks area.old i).location) }
+            × ((get_or self.now.outline.now.steps e past_standing).source
+            ≡ (state_in self.now.outline.now.clocks area.old i).location) }
         ensures { Does self.now.outline.now.clocks self.now.room y.kept (y.tried + 1)
             (try_edge (system_of self.now) self.now.room i e (walk_on self.now y area.old))
             area.old result area.new }
     {
         let outline = self.outline;
-        let edge = places::edge_at(
-            self.bytes,
-            outline.steps[e],
-            outline.clocks,
-            outline.locations,
-        );
+        let edge = places::edge_at(outline.steps[e].bytes, outline.clocks, outline.locations);
         let from = outline.invariants[edge.destination as usize];
-        let invariant = places::list_at(self.bytes, from, outline.clocks);
+        let invariant = places::list_at(from, outline.clocks);
         let tally = Tally {
             kept: y.kept,
             tried: y.tried + 1,
@@ -114,8 +109,8 @@ impl Ground<'_> {
         let n = self.outline.clocks as usize;
         let mut s = y;
         for e in 0..self.outline.edges as usize {
-            let place = area::locate(area, n, i);
-            if self.outline.sources[e] == place.location {
+            let state = area::locate(area, n, i);
+            if self.outline.steps[e].source == state.location {
                 let moved = self.follow(area, s, i, e)?;
                 let Moved::Going(next) = moved else {
                     return Ok(moved);
@@ -184,7 +179,7 @@ impl Ground<'_> {
         let y = Tally { kept: 0, tried: 0 };
         let zeroth = Candidate {
             location: self.outline.initial,
-            parent: -1,
+            parent: -1, // words of a record, as the rules fix them
             edge: -1,
             list,
         };
@@ -199,12 +194,12 @@ impl Ground<'_> {
     pub fn begin(&self, area: &mut [i32]) -> Result<Verdict, Refusal>
         requires { Grounded self.now (tally 0 0) area.old }
         ensures { Finds self.now.outline.now.clocks 0 self.now.outline.now.depth
-            (walk_of (plain (model_by self.now.bytes.now self.now.outline.now)) self.now.room)
+            (walk_of (plain (model_by self.now.outline.now)) self.now.room)
             area.old result area.new }
     {
         let n = self.outline.clocks as usize;
         let from = self.outline.invariants[self.outline.initial as usize];
-        let invariant = places::list_at(self.bytes, from, self.outline.clocks);
+        let invariant = places::list_at(from, self.outline.clocks);
         let zeros = [0; 7];
         let mut out = [0; 224];
         let k = steps::enter(n, &invariant, &zeros[..n + 1], &mut out)?;

@@ -27,7 +27,8 @@ pub struct Goal {
     pub list: Bounds,
 }
 
-// A part of the walk goes on, or has met the target with the state kept last.
+// A part of the walk goes on, or has met the target with the state kept last: two answers, beside which `?` passes a
+// refusal on.
 #[derive(Clone, Copy, Debug, PartialEq, Eq)]
 pub enum Moved {
     Going(Tally),
@@ -35,16 +36,15 @@ pub enum Moved {
 }
 
 // Walks a model by its outline: SHAPE for an area under one record, then the walk; its refusal leaves every word 0.
-pub fn walk_outline(bytes: &[u8], outline: Outline, area: &mut [i32]) -> Result<Verdict, Refusal>
-    requires { Outlines bytes.now outline }
-    ensures { WalksModel (model_by bytes.now outline) area.old result area.new }
+pub fn walk_outline(outline: Outline, area: &mut [i32]) -> Result<Verdict, Refusal>
+    requires { Outlines outline }
+    ensures { WalksModel (model_by outline.entry) area.old result area.new }
 {
     let n = outline.clocks as usize;
     if area.len() < area::size(n) {
         return Err(Refusal::Shape);
     }
     let ground = Ground {
-        bytes,
         outline: &outline,
         room: area::room(area, n),
     };
@@ -60,5 +60,5 @@ pub fn walk(bytes: &[u8], area: &mut [i32]) -> Result<Verdict, Refusal>
     ensures { Walks bytes.now area.old result area.new }
 {
     let outline = model::places::read_outline(bytes)?;
-    walk_outline(bytes, outline, area)
+    walk_outline(outline, area)
 }

@@ -7,7 +7,7 @@ use mir.Syntax.{w32}
 use mir.Val.{to_z, of_z}
 use Rattle.algebra.specs.Vectors.{count}
 use Rattle.area.specs.Records.{state_in}
-use Rattle.area.proofs.RecordLaws.{read_room, location_read, location_small, count_read, few_read, places}
+use Rattle.area.proofs.RecordLaws.{read_room, location_read, location_small, count_read, list_located, list_ends}
 use Rattle.area.proofs.locate.Goals as goal
 use Rattle.area.proofs.locate.Goals.{After-size, After-location-1, After-vectors-1}
 
@@ -26,11 +26,6 @@ counted : (c : After-vectors-1) → let a = c.args in
     ≡ pos (count a.n (state_in a.n a.area.now a.i).list)
 counted c = count_read c.args.n c.args.i _ c.args.area.now c.size.ensures c.requires.1 c.vectors-1.given
 
--- so many vectors fit the record
-few : (c : After-size) → let a = c.args in
-    count a.n (state_in a.n a.area.now a.i).list * (a.n + 1) ≤ 32 * suc a.n
-few c = few_read c.args.n c.args.i _ c.args.area.now c.size.ensures c.requires.1
-
 pub bounds-area-at : goal.bounds-area-at
 bounds-area-at c = omega (arith, room (goal.at.bounds-area-at c).After-size)
 
@@ -48,18 +43,15 @@ overflow_cast-location c =
     let small = location_small a.n a.i _ a.area.now c.size.ensures c.requires.1 c.location-1.given in
     rw (located (goal.at.overflow_cast-location c).After-location-1) (tt, omega (arith, small))
 
-pub overflow_mul-result : goal.overflow_mul-result
-overflow_mul-result c =
-    rw (counted (goal.at.overflow_mul-result c).After-vectors-1)
-    (omega (arith, few (goal.at.overflow_mul-result c).After-size, c.requires.0))
-
-pub overflow_add-result-2 : goal.overflow_add-result-2
-overflow_add-result-2 c =
-    let s = (goal.at.overflow_add-result-2 c).After-size in
-    rw (counted (goal.at.overflow_add-result-2 c).After-vectors-1) (omega (arith, few s, c.well_formed, room s))
-
 pub returns : goal.returns
-returns c =
-    places c.args.n c.args.i _ c.args.area.now c.size.ensures c.requires.1 _ _
-    (ap nat_abs (located (goal.at.returns c).After-location-1))
-    (ap nat_abs (counted (goal.at.returns c).After-vectors-1))
+returns c = record {
+  location = ap nat_abs (located (goal.at.returns c).After-location-1);
+  list =
+      list_located c.args.n c.args.i _ c.args.area.now c.size.ensures c.requires.1 _
+      (ap nat_abs (counted (goal.at.returns c).After-vectors-1));
+}
+
+pub slice_bounds-result-end : goal.slice_bounds-result-end
+slice_bounds-result-end c =
+    list_ends c.args.n c.args.i _ c.args.area.now c.size.ensures c.requires.1 _
+    (ap nat_abs (counted (goal.at.slice_bounds-result-end c).After-vectors-1))

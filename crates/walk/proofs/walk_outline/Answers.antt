@@ -16,7 +16,7 @@ big c = omega (arith, c.size.ensures, c.if-area-size.false)
 
 -- the walk in that room
 found : (c : After-begin-walked) → let a = c.args in
-    Finds a.outline.clocks 0 a.outline.depth (ending_of (model_by a.bytes.now a.outline) a.area.now) a.area.now
+    Finds a.outline.clocks 0 a.outline.depth (ending_of (model_by a.outline) a.area.now) a.area.now
     c.begin-walked.result c.begin-walked.new.area
 found c = found_in _ c.requires.limits _ c.room.ensures c.begin-walked.ensures
 

@@ -14,10 +14,10 @@ returns-in_err-s c =
     let p = err_from_is_err_and c.from_residual.result c.from_residual.ensures.1 in
     rw (p.1, p.2)
     (sym (first_refused _ _ _
-    (items_refused entry_form 14 _ (pos 0) _ (omega arith) (c.in_err-s.ensures entry_form (λ x r h. h)))))
+    (items_refused entry_form 14 _ (pos 0) _ (omega arith) (c.in_err-s.ensures.read entry_form (λ x r h. h)))))
 
 pub returns : goal.returns
 unfolding half_form read_in
 returns c =
     sym (first_gave _ _ _
-    (items_gave entry_form 14 _ (pos 0) _ (omega arith) (c.in_ok-s.ensures entry_form (λ x r h. h))))
+    (items_gave entry_form 14 _ (pos 0) _ (omega arith) (c.in_ok-s.ensures.read entry_form (λ x r h. h))))

@@ -9,10 +9,10 @@ returns-in_err-s c =
     let p = err_from_is_err_and c.from_residual.result c.from_residual.ensures.1 in
     rw (p.1, p.2)
     (items_refused (edge_form c.args.n c.args.l) 64 _ no_edge _ c.requires.1
-    (rw c.no_edge-steps.ensures at (c.in_err-s.ensures (edge_form c.args.n c.args.l) (λ x r h. search rules))))
+    (rw c.no_edge-steps.ensures at (c.in_err-s.ensures.read (edge_form c.args.n c.args.l) (λ x r h. search rules))))
 
 pub returns : goal.returns
 returns c =
     rw c.no_edge-steps.ensures
     (items_gave (edge_form c.args.n c.args.l) 64 _ no_edge _ c.requires.1
-    (rw c.no_edge-steps.ensures at (c.in_ok-s.ensures (edge_form c.args.n c.args.l) (λ x r h. search rules))))
+    (rw c.no_edge-steps.ensures at (c.in_ok-s.ensures.read (edge_form c.args.n c.args.l) (λ x r h. search rules))))

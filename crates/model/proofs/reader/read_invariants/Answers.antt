@@ -9,10 +9,10 @@ returns-in_err-s c =
     let p = err_from_is_err_and c.from_residual.result c.from_residual.ensures.1 in
     rw (p.1, p.2)
     (items_refused (bounds_form c.args.n) 32 _ no_bounds _ c.requires.1
-    (rw c.no_bounds-invariants.ensures at (c.in_err-s.ensures (bounds_form c.args.n) (λ x r h. search rules))))
+    (rw c.no_bounds-invariants.ensures at (c.in_err-s.ensures.read (bounds_form c.args.n) (λ x r h. search rules))))
 
 pub returns : goal.returns
 returns c =
     rw c.no_bounds-invariants.ensures
     (items_gave (bounds_form c.args.n) 32 _ no_bounds _ c.requires.1
-    (rw c.no_bounds-invariants.ensures at (c.in_ok-s.ensures (bounds_form c.args.n) (λ x r h. search rules))))
+    (rw c.no_bounds-invariants.ensures at (c.in_ok-s.ensures.read (bounds_form c.args.n) (λ x r h. search rules))))

@@ -15,7 +15,7 @@ gave : (c : In_ok-k) → let n = c.args.keeper.now.n in
     Gave n (following n (edge_of n c.args.edge.now) (bounds_of n c.args.invariant.now)
     (state_in n c.args.area.now c.args.i).list) c.in_ok-k.k c.candidate.new.out
 gave c = let r = c.requires in
-    candidate_gave _ _ _ _ c.locate-place.ensures (r.ready.0.recorded _ r.ready.1) c.args.edge.now c.args.invariant.now
+    candidate_gave _ _ _ _ c.locate-state.ensures (r.ready.0.recorded _ r.ready.1) c.args.edge.now c.args.invariant.now
     r.bounds_limits.0 r.bounds_limits.1 _ _ _ c.in_ok-k.ensures
 
 pub judge-requires : goal.judge-requires

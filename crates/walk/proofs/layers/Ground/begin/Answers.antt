@@ -1,13 +1,12 @@
 use native.Mathlib.Omega.{arith}
-use mathlib.Core.List.{List}
 use mathlib.Core.Path.{◌≡◌}
-use Prim.Native.Nat.{ℕ, ◌+◌, ◌*◌, ◌≤◌}
+use Prim.Native.Nat.{◌+◌, ◌*◌, ◌≤◌}
 use lib.ListN.{length, get_or}
 use Rattle.bounds.specs.declared.Bounds.{Bounds}
 use Rattle.runs.specs.Rule.{enter, zeros}
 use Rattle.model.specs.Models.{past_bounds}
 use Rattle.model.specs.declared.Outline.{Outline}
-use Rattle.model.specs.Outlines.{list_at, model_by, Outlines}
+use Rattle.model.specs.Outlines.{list_at, model_by, past_place, Outlines}
 use Rattle.walk.specs.Grounds.{system_of}
 use Rattle.walk.proofs.FormLaws.{Gave, prefix_in}
 use Rattle.walk.proofs.FollowLaws.{known, invariant_limits}
@@ -17,10 +16,10 @@ use Rattle.walk.proofs.layers.Ground.begin.Goals as goal
 use Rattle.walk.proofs.layers.Ground.begin.Goals.{In_ok-k}
 
 -- the invariant that was read
-read : {s : List ℕ} {o : Outline} (h : Outlines s o) {inv : Bounds}
-    → inv ≡ list_at o.clocks s (get_or o.invariants o.initial 0)
-    → inv ≡ get_or (model_by s o).invariants o.initial past_bounds
-read {s} {o} h is = known s o h o.initial h.limits.numbers.initial is
+read : {o : Outline} (h : Outlines o) {inv : Bounds}
+    → inv ≡ list_at o.clocks (get_or o.invariants o.initial past_place).now
+    → inv ≡ get_or (model_by o).invariants o.initial past_bounds
+read {o} h is = known o h o.initial h.limits.numbers.initial is
 
 -- the list of state 0
 gave : (c : In_ok-k) → let g = c.args.self.now in
@@ -39,7 +38,7 @@ enter-requires c =
     let g = c.args.self.now in
     let h = c.requires.outlines in (
       begin_starts g.outline.now.clocks _ c.requires.ready.clocks (omega (arith, h.limits.numbers.clocks)),
-      invariant_limits g.bytes.now g.outline.now h _ h.limits.numbers.initial c.list_at-invariant.ensures,
+      invariant_limits g.outline.now h _ h.limits.numbers.initial c.list_at-invariant.ensures,
     )
 
 pub returns-in_err-k : goal.returns-in_err-k

@@ -5,7 +5,7 @@ use lib.ListN.{get_or}
 use Rattle.std.proofs.Common.{Ok}
 use Rattle.runs.specs.Rule.{try_edge, expand}
 use Rattle.model.specs.Models.{past_edge}
-use Rattle.model.specs.Outlines.{model_by}
+use Rattle.model.specs.Outlines.{model_by, past_standing}
 use Rattle.model.proofs.PlainLimits.{edges_many, edge_at_lem}
 use Rattle.walk.specs.declared.Moved.TheVariants.{Going}
 use Rattle.walk.specs.Control.{walk_in, Does}
@@ -14,13 +14,13 @@ use Rattle.walk.proofs.KeepingLaws.{goes_on, stays}
 use Rattle.walk.proofs.FormLaws.{try_stays}
 use Rattle.walk.proofs.Turns.{turn_first, turns_on, turns_met, turns_refused, turns_done, ready_on, does_more}
 use Rattle.walk.proofs.layers.Ground.expand.Goals as goal
-use Rattle.walk.proofs.layers.Ground.expand.Goals.{After-locate-place, then-self-e+in_ok-moved+in-Going, else-self-e}
+use Rattle.walk.proofs.layers.Ground.expand.Goals.{After-locate-state, then-self-e+in_ok-moved+in-Going, else-self-e}
 
 -- an edge that does not leave
-remains : (c : After-locate-place) → let g = c.args.self.now in
+remains : (c : After-locate-state) → let g = c.args.self.now in
     let n = g.outline.now.clocks in
     let l = c.loop-e in
-    ¬ (get_or g.outline.now.sources l.e 0 ≡ c.locate-place.result.location)
+    ¬ ((get_or g.outline.now.steps l.e past_standing).source ≡ c.locate-state.result.location)
     → Does n g.room l.s.kept (c.args.y.tried + (l.e + 1))
     (try_edge (system_of g) g.room c.args.i l.e (walk_in n l.s l.area)) l.area (Ok (Going l.s)) l.area
 remains c h =
@@ -28,12 +28,12 @@ remains c h =
     let l = c.loop-e in
     let grows = l.invariant.turning.grows in
     let o = c.requires.0.outlines in
-    let m = model_by g.bytes.now g.outline.now in
+    let m = model_by g.outline.now in
     let inside : c.args.i < l.s.kept = omega (arith, c.requires.1, grows.more) in
     goes_on (omega (arith, grows.few)) (ready_on c.requires.0.ready l.invariant.long grows)
     (try_stays m g.room c.args.i l.e l.s l.area inside (get_or m.steps l.e past_edge)
     (edge_at_lem m o.limits past_edge _ c.loop-e-test.true)
-    (λ q. h (o.sources _ c.loop-e-test.true ∙ q ∙ sym c.locate-place.ensures.location)))
+    (λ q. h (o.sources _ c.loop-e-test.true ∙ q ∙ sym c.locate-state.ensures.location)))
 
 pub loop-e-init : goal.loop-e-init
 loop-e-init c = let g = c.args.self.now in
@@ -42,7 +42,7 @@ loop-e-init c = let g = c.args.self.now in
       turning = record {
         grows = stays _ _ c.args.y _ _ (omega arith) c.requires.0.ready;
         left = unfold expand in turn_first _ g.outline.now.edges _ 0 _
-            (omega (arith, edges_many (model_by g.bytes.now g.outline.now) c.requires.0.outlines.limits));
+            (omega (arith, edges_many (model_by g.outline.now) c.requires.0.outlines.limits));
       };
     }
 
@@ -61,7 +61,7 @@ returns-in_default c =
 pub loop-e-preserved : goal.loop-e-preserved
 loop-e-preserved c =
     let l = c.loop-e.invariant in
-    let x = (goal.at.loop-e-preserved c).After-locate-place in
+    let x = (goal.at.loop-e-preserved c).After-locate-state in
     record {
       long = c.if-self-e.auto.area ∙ l.long;
       turning = elim c.if-self-e.branch [

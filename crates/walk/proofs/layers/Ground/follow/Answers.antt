@@ -10,7 +10,7 @@ use Rattle.walk.proofs.layers.Ground.follow.Goals.{After-edge_at-edge}
 limits : (c : After-edge_at-edge) → let o = c.args.self.now.outline.now in
     EdgeLimits o.clocks o.locations c.edge_at-edge.result
 limits c = let g = c.args.self.now in
-    edge_limits g.bytes.now g.outline.now c.requires.grounded.0.outlines c.args.e c.requires.e_lt_edges.0
+    edge_limits g.outline.now c.requires.grounded.0.outlines c.args.e c.requires.e_lt_edges.0
     c.edge_at-edge.ensures
 
 pub bounds-outline-edge : goal.bounds-outline-edge
@@ -32,7 +32,7 @@ form-requires c = let g = c.args.self.now in
       );
       bounds_limits = (
         e.guard,
-        invariant_limits g.bytes.now g.outline.now h _ e.destination c.list_at-invariant.ensures,
+        invariant_limits g.outline.now h _ e.destination c.list_at-invariant.ensures,
         h.limits.list,
       );
     })
@@ -40,6 +40,6 @@ form-requires c = let g = c.args.self.now in
 pub returns : goal.returns
 returns c = let g = c.args.self.now in
     let r = c.requires in
-    followed g.bytes.now g.outline.now r.grounded.0.outlines c.args.e r.e_lt_edges.0 c.edge_at-edge.ensures g.room
+    followed g.outline.now r.grounded.0.outlines c.args.e r.e_lt_edges.0 c.edge_at-edge.ensures g.room
     c.args.i c.args.y c.args.area.now c.list_at-invariant.result r.grounded.1 r.e_lt_edges.1 c.list_at-invariant.ensures
     (rw c.keeper.ensures at c.form.ensures)

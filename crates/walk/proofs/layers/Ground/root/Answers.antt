@@ -15,13 +15,13 @@ kept : (c : In_ok-moved) → let g = c.args.self.now in
     Does g.outline.now.clocks g.room 0 0 (keep (system_of g) g.room (zeroth (system_of g) c.args.list.now) nothing)
     c.args.area.now (Ok c.in_ok-moved.moved) c.store.new.area
 kept c = let g = c.args.self.now in
-    root_did g.bytes.now g.outline.now c.requires.0.outlines g.room c.args.area.now c.args.list.now _ _ refl refl
+    root_did g.outline.now c.requires.0.outlines g.room c.args.area.now c.args.list.now _ _ refl refl
     (rw c.keeper.ensures at c.in_ok-moved.ensures)
 
 pub returns-in_err-moved : goal.returns-in_err-moved
 returns-in_err-moved c = let g = c.args.self.now in
     root_refused _ _ _ _ _
-    (root_did g.bytes.now g.outline.now c.requires.0.outlines g.room c.args.area.now c.args.list.now _ _ refl refl
+    (root_did g.outline.now c.requires.0.outlines g.room c.args.area.now c.args.list.now _ _ refl refl
     (rw c.keeper.ensures at c.in_err-moved.ensures)) c.from_residual.ensures.1
 
 pub returns-in_default : goal.returns-in_default
