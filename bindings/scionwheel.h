@@ -30,8 +30,8 @@
  * Stack that a call takes, measured on this library as compiled by the kit of `rt version`, rounded up, not proved:
  *     contains, included                  512 bytes
  *     intersect, delay, reset, hull    10,000 bytes
- *     walk, print                      33,000 bytes
- *     rewrite                         231,000 bytes
+ *     walk, print                      26,000 bytes
+ *     rewrite                         270,000 bytes
  * Where a program finds memcpy and memset only at their first call (lazy binding), that took 3,400 bytes more, once.
  * Large frames are touched page by page, so a stack that is too short ends at its guard page.
  *

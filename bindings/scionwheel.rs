@@ -22,7 +22,7 @@
 // RANGE, GENS or ROOM leaves every word of the state area 0, in walk and in print.
 //
 // Stack that a call takes, measured on the library as compiled by the kit of `rt version`, rounded up, not proved:
-// contains and included 512 bytes; intersect, delay, reset and hull 10,000; walk and print 33,000; rewrite 231,000.
+// contains and included 512 bytes; intersect, delay, reset and hull 10,000; walk and print 26,000; rewrite 270,000.
 //
 // A call whose signature changes gets a new name, and the old name goes. So a program that was written for the old one
 // fails to link, and never passes words that mean something else.
