@@ -6,8 +6,9 @@ use native.Mathlib.Decide.{dec_lt}
 use native.Mathlib.Nat.{suc-mul, zero-mul, mul-le-mul_right}
 use native.Mathlib.Omega.{arith}
 use lib.IntN.{ℤ, pos}
-use lib.ListN.{length, take, drop, replicate, length-append, length-drop, take-append-drop}
-use lib.Seq.{drop_at, take_at, take-append-le, drop-append-le, length-take-le}
+use native.Mathlib.Numerals.{add-one}
+use lib.ListN.{length, get_or, set, take, drop, replicate, length-append, length-drop, take-append-drop}
+use lib.Seq.{paste-suc, paste-zero, take-length, drop_at, take_at, take-append-le, drop-append-le, length-take-le}
 use lib.Seq.{drop-append-add, take-add}
 use borrow.Rule.Slice.PartMut.{put_mid}
 use Rattle.std.proofs.lemmas.List.{drop-replicate}
@@ -28,12 +29,25 @@ pub put_back : (area v : List ℤ) (a b w : ℕ) → b ≡ a + w → put_mid a (
 put_back area v a b w e =
     let k : b - a ≡ w = omega (arith, e) in ap (λ (x : ℕ). put_mid a x area v) k ∙ put_mid_lem area v a w
 
+-- no word of the list stored yet
+pub put_none : (d l : List ℤ) → d ≡ put d 4 (take 0 l) 0
+unfolding put
+put_none d l = paste-zero d 4 l
+
+-- one word more
+pub put_next : (d l : List ℤ) (i : ℕ) → 4 + i < length d → i < length l
+    → set (put d 4 (take i l) i) (4 + i) (get_or l i (pos 0)) ≡ put d 4 (take (i + 1) l) (i + 1)
+unfolding put
+put_next d l i hd hl = paste-suc d 4 l i (pos 0) hd hl
+    ∙ ap (λ (k : ℕ). put d 4 (take k l) k) (sym (add-one i))
+
 -- 0 everywhere, then the first four words, then the list from word 4 on
 pub write_law : (size : ℕ) (l : List ℤ) (a b c d : ℤ) → 4 + length l ≤ size
-    → put_mid 4 (4 + length l - 4) ((a ∷ b ∷ c ∷ d ∷ []) ++ drop 4 (replicate size (pos 0))) l ≡ written size a b c d l
+    → put ((a ∷ b ∷ c ∷ d ∷ []) ++ drop 4 (replicate size (pos 0))) 4 (take (length l) l) (length l)
+    ≡ written size a b c d l
 unfolding put written
 write_law size l a b c d h =
-    put_back ((a ∷ b ∷ c ∷ d ∷ []) ++ drop 4 (replicate size (pos 0))) l 4 (4 + length l) (length l) refl
+    ap (λ v. put ((a ∷ b ∷ c ∷ d ∷ []) ++ drop 4 (replicate size (pos 0))) 4 v (length l)) (take-length l)
     ∙ (ap (λ z. put ((a ∷ b ∷ c ∷ d ∷ []) ++ z) 4 l (length l)) (drop-replicate 4 size (pos 0))
     ∙ ap (λ z. a ∷ b ∷ c ∷ d ∷ l ++ z)
     (drop-append-add (a ∷ b ∷ c ∷ d ∷ []) (replicate (size - 4) (pos 0)) (length l)

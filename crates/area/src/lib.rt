@@ -44,7 +44,10 @@ fn write(words: &mut [i32], location: i32, parent: i32, edge: i32, count: i32, l
 {
     zero(words);
     words[..4].copy_from_slice(&[location, parent, edge, count]);
-    words[4..4 + list.len()].copy_from_slice(list);
+    // word by word: where neither slice is a local, `copy_from_slice` calls memmove, which the header does not name
+    for (i, word) in list.iter().enumerate() {
+        words[4 + i] = *word;
+    }
 }
 
 // Keeps a state: writes its record behind the first k.

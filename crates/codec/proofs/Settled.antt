@@ -5,7 +5,7 @@ use Prim.Native.Nat.{ℕ}
 use native.Mathlib.Omega.{arith}
 use Rattle.std.specs.Prelude.{Ok, Err}
 use Rattle.numbers.proofs.RefusalLaws.{number_inj}
-use Rattle.codec.specs.Number.{Got, got, refused, number_in}
+use Rattle.codec.specs.Number.{Got, got, refused}
 use Rattle.codec.specs.Answers.{Reading, reading_said, Writes}
 use Rattle.codec.proofs.FormTrip.{same_got}
 
@@ -31,9 +31,8 @@ reads_settled g (Ok a) (Err f) v w = absurd (apart (v ∙ sym w))
 reads_settled g (Err e) (Ok b) v w = absurd (apart (w ∙ sym v))
 
 -- and so do two answers to reading a number
-pub number_settled : (s : List ℕ) (p q : Reading ℕ) → reading_said p ≡ number_in s → reading_said q ≡ number_in s
-    → SameReading p q
-number_settled s = reads_settled (number_in s)
+pub number_settled : (g : Got ℕ) (p q : Reading ℕ) → reading_said p ≡ g → reading_said q ≡ g → SameReading p q
+number_settled = reads_settled
 
 -- two answers to writing, and the areas after them, are equal
 pub writes_settled : (before : List ℕ) (at : ℕ) (bytes after last : List ℕ) (end stop : ℕ)

@@ -1,7 +1,7 @@
 // The model's numbers as bytes, read and written.
 #![tactic(auto)]
 
-ghost use Rattle.std.specs.Prelude.{◌≡◌, ◌≤◌, length, nat_abs};
+ghost use Rattle.std.specs.Prelude.{◌≡◌, ◌≤◌, length, drop, nat_abs};
 ghost use Rattle.codec.specs.Number.{number_in, folded, unfolded};
 ghost use Rattle.codec.specs.Form.{Form, done, ask};
 ghost use Rattle.codec.specs.Answers.{reading_said, Reads, ReadsBy, ReadsItems, Each, left_said};
@@ -15,6 +15,13 @@ pub use writing::Writer;
 
 // The answer of a reading: the value and the bytes behind it, or why there is none.
 pub type Reading<'a, T> = Result<(T, &'a [u8]), Refusal>;
+
+// The bytes from a place on; behind the end there are none. What a reader reads at a place, it reads from these.
+pub fn bytes_from(s: &[u8], at: usize) -> &[u8]
+    ensures { result.now ≡ drop at s.now }
+{
+    &s[at.min(s.len())..]
+}
 
 // The number that the bytes begin with.
 #[tactic(auto, unfolding(crate::specs::Number::number_in))]
